@@ -1,0 +1,10 @@
+pub mod Bools
+pub mod Bits
+pub mod Books
+pub mod Warshall
+pub mod Tables
+pub mod Rules
+pub mod Graph
+pub mod Levels
+pub mod Answers
+pub mod Example
