@@ -14,7 +14,7 @@ use Rattle.model.specs.Matching.{value, values}
 use Rattle.model.specs.Standing.{Then, leafKind, kindOf, fields, size, Row, Body, Operands, Stands, Standing, StandingAll}
 use Rattle.model.proofs.Standing.{leaf-kind}
 use Rattle.numbers.specs.Told.{Legible}
-use Rattle.model.proofs.NumberPast.{number-past}
+use Rattle.model.proofs.StandingPast.{stands-past}
 use Rattle.matching.specs.declared.Asking.{Asking}
 use Rattle.matching.specs.declared.Held.{Held}
 use Rattle.matching.specs.declared.Seen.{Seen}
@@ -32,30 +32,6 @@ module _ (s : List ℕ) (at n : ℕ) (P : ℕ → Type 0) (t : Then s at n P) wh
 
     then-rest : P next
     then-rest = let e : numeral n (t .next) ≡ numeral v next = sym (t .stands) ∙ q in let k : t .next ≡ next = cc in subst P k (t .rest)
-
--- going on: every expression has a byte of its own, and ends within the bytes
-row-past : (s : List ℕ) (at : ℕ) (ns : List ℕ) (next : ℕ) → at ≤ length s → Row s at ns next → (at ≤ next) × (next ≤ length s)
-row-past s at [] next h r = (omega arith, omega arith)
-row-past s at (n ∷ ns) next h r = let p = number-past s at n (r .next) (r .stands) in let q = row-past s (r .next) ns next (p .1) (r .rest) in (omega arith, q .1)
-
-mutual
-  unfolding Body Operands
-
-  body-past : (s : List ℕ) (at : ℕ) (e : Expr) (next : ℕ) → at ≤ length s → Body s at e next → (at ≤ next) × (next ≤ length s)
-  body-past s at (always p) next h b = (omega arith, omega arith)
-  body-past s at (negation p e) next h b = let t = b .1 in let q = number-past s at (kindOf e) (t .next) (t .stands) in let r = body-past s (t .next) e next (q .1) (t .rest) in (omega arith, r .1)
-  body-past s at (conjunction p es) next h b = let q = number-past s at (size es) (b .next) (b .stands) in let r = operands-past s (b .next) es next (q .1) (b .rest) in (omega arith, r .1)
-  body-past s at (leaf p l) next h b = row-past s at (fields l) next h b
-
-  operands-past : (s : List ℕ) (at : ℕ) (es : Exprs) (next : ℕ) → at ≤ length s → Operands s at es next → (at ≤ next) × (next ≤ length s)
-  operands-past s at none next h b = (omega arith, omega arith)
-  operands-past s at (more e es) next h b =
-      let t = b .first .1 in let q = number-past s at (kindOf e) (t .next) (t .stands) in let r = body-past s (t .next) e (b .middle) (q .1) (t .rest) in
-      let u = operands-past s (b .middle) es next (r .1) (b .rest) in (omega arith, u .1)
-
-pub stands-past : (s : List ℕ) (at : ℕ) (e : Expr) (next : ℕ) → Stands s at e next → (at < next) × (next ≤ length s)
-stands-past s at e next h =
-    let t = h .1 in let q = number-past s at (kindOf e) (t .next) (t .stands) in let r = body-past s (t .next) e next (q .1) (t .rest) in (omega arith, r .1)
 
 -- past the kind
 module _ (s : List ℕ) (at kind next : ℕ) (q : numberAt s at ≡ numeral kind next) where

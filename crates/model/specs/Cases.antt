@@ -1,14 +1,17 @@
 -- Document 01's cases C1 to C9: one table, and one statement.
 use Prim.Native.Nat.{ℕ}
-use mathlib.Core.List.{List, [], _∷_}
+use mathlib.Core.List.{List, [], _∷_, _++_}
 use mathlib.Core.Path.{_≡_}
 use Rattle.model.specs.Limits.{programWords}
 use Rattle.model.specs.Answer.{Answer, fine}
 use Rattle.model.specs.Answer as answer
-use Rattle.model.specs.Unfolding.{ListRule, wordsOf}
+use Rattle.model.specs.Calls.{readable}
+use Rattle.model.specs.Unfolding.{listOf, wordsOf}
+use lib.ListN.{length, take, replicate}
 use Rattle.model.specs.Review.{Phase, certified, refused}
-use Rattle.model.specs.Entries.{unfoldEntry, reviewEntry}
+use Rattle.model.specs.Entries.{Counts, unfoldEntry, wordsAfter, reviewEntry}
 use Rattle.model.specs.Report.{report}
+use Rattle.model.specs.Text.{bytes}
 
 -- what is asked: a book's list, the report of a book and a plan, the review of a port
 pub data Question : Type 0 where
@@ -22,17 +25,22 @@ pub data Reply : Type 0 where
   phase : Phase → Reply
   refusal : (number place : ℕ) → Reply
 
-abbrev pub wordsReply : Answer (List ListRule) → Reply
-wordsReply (fine l) = words (wordsOf l)
-wordsReply (answer.refused n p) = refusal n p
+-- the first of the lent words after unfolding, as many as it counts
+abbrev pub wordsReply : Answer Counts → List ℕ → Reply
+wordsReply (fine c) after = words (take (c .words) after)
+wordsReply (answer.refused n p) after = refusal n p
 
 abbrev pub phaseReply : Answer Phase → Reply
 phaseReply (fine ph) = phase ph
 phaseReply (answer.refused n p) = refusal n p
 
+-- as many words as a case's list may need
+abbrev pub blank : List ℕ
+blank = replicate 16 0
+
 unfoldable pub reply : Question → Reply
-unfolding wordsOf unfoldEntry reviewEntry report
-reply (list book) = wordsReply (unfoldEntry book programWords)
+unfolding readable listOf wordsOf unfoldEntry reviewEntry report
+reply (list book) = wordsReply (unfoldEntry book (length blank)) (wordsAfter (unfoldEntry book (length blank)) book blank)
 reply (reported book plan) = text (report book plan programWords)
 reply (reviewed book plan port) = phaseReply (reviewEntry book plan port programWords)
 
@@ -56,13 +64,13 @@ c1Words = 1 ∷ 0 ∷ 1 ∷ 10 ∷ 0 ∷ 1 ∷ 1 ∷ 44 ∷ 1 ∷ 2 ∷ 0 ∷ []
 abbrev pub c2 : List ℕ
 c2 = 0x01 ∷ 0x02 ∷ 0x00 ∷ 0x01 ∷ 0x80 ∷ 0x80 ∷ 0xA0 ∷ 0x85 ∷ 0x0C ∷ 0xFF ∷ 0x81 ∷ 0xA0 ∷ 0x85 ∷ 0x0C ∷ 0x01 ∷ 0x00 ∷ []
 
--- C2's report, a line to a line
+-- C2's report, line by line
 abbrev c2Report : List ℕ
 c2Report =
-    115 ∷ 112 ∷ 111 ∷ 111 ∷ 102 ∷ 32 ∷ 114 ∷ 101 ∷ 112 ∷ 111 ∷ 114 ∷ 116 ∷ 32 ∷ 49 ∷ 10
-    ∷ 114 ∷ 117 ∷ 108 ∷ 101 ∷ 115 ∷ 32 ∷ 50 ∷ 32 ∷ 108 ∷ 105 ∷ 115 ∷ 116 ∷ 32 ∷ 51 ∷ 10
-    ∷ 112 ∷ 111 ∷ 114 ∷ 116 ∷ 32 ∷ 48 ∷ 32 ∷ 99 ∷ 101 ∷ 114 ∷ 116 ∷ 105 ∷ 102 ∷ 105 ∷ 101 ∷ 100 ∷ 10
-    ∷ 112 ∷ 111 ∷ 114 ∷ 116 ∷ 32 ∷ 49 ∷ 32 ∷ 114 ∷ 101 ∷ 102 ∷ 117 ∷ 115 ∷ 101 ∷ 100 ∷ 32 ∷ 114 ∷ 117 ∷ 108 ∷ 101 ∷ 32 ∷ 49 ∷ 32 ∷ 115 ∷ 111 ∷ 117 ∷ 114 ∷ 99 ∷ 101 ∷ 32 ∷ 48 ∷ 46 ∷ 48 ∷ 46 ∷ 48 ∷ 46 ∷ 48 ∷ 10 ∷ []
+    bytes "spoof report 1\n"
+    ++ bytes "rules 2 list 3\n"
+    ++ bytes "port 0 certified\n"
+    ++ bytes "port 1 refused rule 1 source 0.0.0.0\n"
 
 abbrev c3 : List ℕ
 c3 = 0x01 ∷ 0x01 ∷ 0x01 ∷ 0x02 ∷ 0x01 ∷ 0x02 ∷ 0x03 ∷ 0x04 ∷ 0x00 ∷ 0x01 ∷ 0x03 ∷ 0x80 ∷ 0x80 ∷ 0xA0 ∷ 0x85 ∷ 0x0C ∷ 0xFF ∷ 0x81 ∷ 0xA0 ∷ 0x85 ∷ 0x0C ∷ 0x08 ∷ 0x00 ∷ 0x00 ∷ 0x00 ∷ []

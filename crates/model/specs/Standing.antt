@@ -1,13 +1,15 @@
 -- An expression as it stands in the book's bytes: the numbers of document 01's table, one after the other. No level, count or limit is spoken of:
 -- what a reader has found stands there, whatever it was read under.
-use Prim.Native.Nat.{ℕ, zero, suc}
+use Prim.Native.Nat.{ℕ, zero, suc, _<_, _≤_}
 use mathlib.Core.List.{List, [], _∷_}
 use mathlib.Core.Path.{_≡_}
+use lib.ListN.{length}
 use Rattle.model.specs.Number.{numeral, numberAt}
-use Rattle.model.specs.Tree.{Expr, Exprs, Leaf, placeOf, Rule, Book, Every}
+use Rattle.model.specs.Tree.{Expr, Exprs, Leaf, placeOf, Action, Rule, Book, Every}
 use Rattle.model.specs.Tree.Expr.{always, negation, conjunction, leaf}
 use Rattle.model.specs.Tree.Exprs.{none, more}
 use Rattle.model.specs.Tree.Leaf.{source, destination, service, port, protocol, unread}
+use Rattle.model.specs.Tree.Action.{accept, drop, reject, log, empty, return, call}
 
 -- the number n stands at a place, and P is so of the place after it
 pub record Then (s : List ℕ) (at n : ℕ) (P : ℕ → Type 0) : Type 0 where
@@ -86,6 +88,23 @@ pub record StandingAll (s : List ℕ) (at n : ℕ) : Type 0 where
 pub record Placed (s : List ℕ) (e : Expr) : Type 0 where
   pub next : ℕ
   pub stands : Stands s (placeOf e) e next
+
+-- the numbers ahead of a rule's expression: its action, and for a call the called chain
+abbrev pub actionRow : Action → List ℕ
+actionRow accept = 0 ∷ []
+actionRow drop = 1 ∷ []
+actionRow reject = 2 ∷ []
+actionRow log = 3 ∷ []
+actionRow empty = 4 ∷ []
+actionRow return = 5 ∷ []
+actionRow (call c) = 6 ∷ c ∷ []
+
+-- a rule's own bytes of the book: from its place to its end, action through expression
+pub record RuleWritten (s : List ℕ) (r : Rule) : Type 0 where
+  pub some : r .place < r .next
+  pub inside : r .next ≤ length s
+  pub action : Row s (r .place) (actionRow (r .action)) (placeOf (r .match))
+  pub expression : Stands s (placeOf (r .match)) (r .match) (r .next)
 
 -- every rule's expression stands at its own place, up to the rule's end
 abbrev pub RuleStands : List ℕ → Rule → Type 0
