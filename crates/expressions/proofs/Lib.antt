@@ -3,3 +3,4 @@ pub mod Told
 pub mod Fields
 pub mod ByKind
 pub mod Ends
+pub mod Unique
