@@ -1,13 +1,13 @@
 -- What the model reads after each kind, as the code's answers see it. Assumes nothing.
 use Prim.Native.Nat.{ℕ, zero, suc, _+_, _-_, _<_, _≤_}
 use mathlib.Core.Path.{_≡_, refl, sym, ap, _∙_, fun-ext}
-use mathlib.Core.List.{List, [], _∷_}
+use mathlib.Core.List.{List}
 use native.Mathlib.Numerals.{add-one, sub-one}
 use native.Mathlib.Omega.{arith}
 use borrow.Author.Tests.{lt-ltb, le-ltb}
 use lib.Dec.{ltb}
 use Rattle.model.specs.Limits.{greatest, sourcesMost, operandsMost, portHighest, protocolHighest, serviceHighest, unreadHighest}
-use Rattle.model.specs.Reader.{Stand, Read, got, refused, Reader, after, each}
+use Rattle.model.specs.Reader.{Stand, Read, got, refused, after, each}
 use Rattle.model.specs.Number.{numeral, illegible, numberAt, number}
 use Rattle.model.specs.Tree.{Expr, exprs}
 use Rattle.model.specs.Tree.Expr.{negation, conjunction, leaf}
@@ -40,7 +40,7 @@ numbers-give f s st = both-give f (number s) st ∙ ap (λ (m : Stand → Read �
 
 -- the kind stands at `place`, and what follows it at `next`
 module _ (s : List ℕ) (place kind next sources : ℕ) (e : numberAt s place ≡ numeral kind next) where
-  -- the answer r is what the model reads, an expression one level below by the answers of `levels`
+  -- r is what the model reads there, however many levels may still be entered below and however many rules were counted
   abbrev Is : ExpressionRead → Type 0
   Is r = (levels rules : ℕ) → r ≡ told (expression (suc levels) s (stand place rules sources))
 
@@ -100,7 +100,7 @@ module _ (s : List ℕ) (place kind next sources : ℕ) (e : numberAt s place �
     is-conjunction k count first q r h rules =
         rw (e, k, field-got s next 2 operandsMost rules sources count first q) (h rules 0 ∙ sym (told-give (λ es. conjunction place (exprs es)) (each count 0 (λ j. expression levels) s (stand first rules sources))))
 
--- no level left, no kind, and a level entered
+-- 6 where no level is left, before the kind is read; and where one is, it is entered
 pub no-level : (levels : ℕ) → levels ≡ 0 → (s : List ℕ) (at sources rules : ℕ) → Refused 6 at ≡ told (expression levels s (stand at rules sources))
 unfolding expression
 no-level levels h s at sources rules = rw h

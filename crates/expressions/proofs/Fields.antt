@@ -1,6 +1,6 @@
 -- A field that the code has read, or refused, is one that the model's reader reads, or refuses. Assumes nothing.
 use Prim.Native.Nat.{ℕ, zero-le}
-use mathlib.Core.Path.{_≡_, refl, sym, ap, _∙_, fun-ext}
+use mathlib.Core.Path.{_≡_, refl, sym, ap, _∙_}
 use mathlib.Core.Bool.{Bool, true, false, _&&_}
 use mathlib.Core.List.{List}
 use lib.Dec.{leb}
@@ -8,7 +8,7 @@ use borrow.Author.Tests.{le-leb}
 use native.Mathlib.Omega.{arith}
 use Rattle.model.specs.Limits.{greatest}
 use Rattle.model.specs.Answer.{when}
-use Rattle.model.specs.Reader.{Stand, Read, got, refused, Reader, after}
+use Rattle.model.specs.Reader.{Stand, got, refused, after}
 use Rattle.model.specs.Number.{Numeral, numeral, illegible, numberAt, onward, number}
 use Rattle.model.specs.Book.{within}
 use Rattle.model.proofs.NumberPast.{number-past}

@@ -19,7 +19,7 @@ use Rattle.expressions.specs.Told.{stand}
 use Rattle.expressions.proofs.Told.{each-none, each-refused, each-got}
 use Rattle.expressions.proofs.Fields.{field-number}
 use Rattle.expressions.proofs.ByKind.{no-level, entered, kind-refused, is-negation, is-count-refused, is-conjunction}
-use Rattle.expressions.proofs.Ends.{Found, found}
+use Rattle.expressions.proofs.Ends.{found}
 use Rattle.expressions.proofs.read_expression.Reads as expr
 use Rattle.expressions.proofs.read_expression.Kinds as expr-kinds
 use Rattle.expressions.proofs.+read_expression+read_operands.Lts-read_expression as expr-lts

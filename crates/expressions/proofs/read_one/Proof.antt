@@ -5,9 +5,6 @@ use Rattle.numbers.specs.Told as number
 use Rattle.expressions.proofs.Fields.{one-refused, one-got}
 use Rattle.expressions.proofs.read_one.Statement.{statement}
 use Rattle.expressions.proofs.read_one.Tie as tie
-use Rattle.expressions.proofs.read_one.Reads as reads
-use Rattle.expressions.proofs.read_one.Lts as lts
-use Rattle.numbers.proofs.read_field.Reads as read-field-reads
 
 read-field-requires : tie.Need-read-field-requires
 read-field-requires c κs = search needs

@@ -4,10 +4,6 @@ use Prim.Native.Nat.{zero-le}
 use Rattle.expressions.proofs.ByKind.{is-always, is-source, is-too-many, is-port, is-destination, is-protocol, is-service, is-unread, is-no-kind, above}
 use Rattle.expressions.proofs.read_plain.Statement.{statement}
 use Rattle.expressions.proofs.read_plain.Tie as tie
-use Rattle.expressions.proofs.read_plain.Reads as reads
-use Rattle.expressions.proofs.read_plain.Lts as lts
-use Rattle.expressions.proofs.read_one.Reads as read-one-reads
-use Rattle.expressions.proofs.read_two.Reads as read-two-reads
 
 returns : tie.Need-returns
 returns c = is-always _ _ _ _ _ (c .before .before .pre .stands) (c .if1 .taken)

@@ -5,10 +5,6 @@ use Rattle.numbers.specs.Told as number
 use Rattle.expressions.proofs.Fields.{two-refused, two-got}
 use Rattle.expressions.proofs.read_two.Statement.{statement}
 use Rattle.expressions.proofs.read_two.Tie as tie
-use Rattle.expressions.proofs.read_two.Reads as reads
-use Rattle.expressions.proofs.read_two.Lts as lts
-use Rattle.expressions.proofs.read_one.Reads as read-one-reads
-use Rattle.numbers.proofs.read_field.Reads as read-field-reads
 
 read-field-requires : tie.Need-read-field-requires
 read-field-requires c κs = search needs
