@@ -1,5 +1,5 @@
 -- Conditions one after the other: those so far are seen, and the rest are written where reading goes on. Assumes nothing.
-use Prim.Native.Nat.{ℕ, zero, suc, _+_, _-_, _*_, _≤_, _<_, _/_, _%_}
+use Prim.Native.Nat.{ℕ, _+_, _-_, _*_, _≤_, _<_, _/_, _%_}
 use mathlib.Core.Bool.{Bool, true, false}
 use mathlib.Core.List.{List, [], _∷_}
 use mathlib.Core.Path.{_≡_, refl, sym, _∙_, ap, subst}
@@ -8,17 +8,17 @@ use native.Mathlib.Numerals.{add-one}
 use lib.Dec.{eqb}
 use lib.ListN.{length, getD}
 use Rattle.model.specs.Answer.{when}
-use Rattle.model.specs.Tree.{Expr, placeOf}
-use Rattle.model.specs.Ternary.{Tri, not₃, and₃, yes}
+use Rattle.model.specs.Tree.{placeOf}
+use Rattle.model.specs.Ternary.{Tri, and₃, yes}
 use Rattle.model.specs.Matching.{value}
 use Rattle.model.specs.Standing.{Stands, Standing}
-use Rattle.model.specs.Unfolding.{Condition, conditionWord}
+use Rattle.model.specs.Unfolding.{Condition}
 use Rattle.model.specs.Verdict.{conditionValue, conditionsValue}
 use Rattle.matching.specs.declared.Asking.{Asking}
 use Rattle.matching.specs.declared.Held.{Held}
 use Rattle.matching.specs.declared.Seen.{Seen}
 use Rattle.matching.specs.Sight.{rank, sight, Sees, SeesExpr, SeesBoth}
-use Rattle.matching.specs.Conditions.{Noted, Written, Writing, SeesCondition, SeesConditions}
+use Rattle.matching.specs.Conditions.{Noted, Written, SeesCondition}
 use Rattle.matching.proofs.Seeing.{sees-ever, sees-not, both-first, and-yes, yes-and, and-assoc}
 
 -- one condition

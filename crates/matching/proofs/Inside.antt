@@ -1,17 +1,16 @@
 -- What stands inside an expression, by its kind, and what is seen of the whole by what is seen inside. Assumes nothing.
-use Prim.Native.Nat.{ℕ, zero, suc, _+_, _-_, _≤_, _<_, _%_}
+use Prim.Native.Nat.{ℕ, _-_, _≤_, _<_, _%_}
 use mathlib.Core.List.{List, [], _∷_}
 use mathlib.Core.Path.{_≡_, refl, sym, _∙_, ap, subst}
 use native.Mathlib.Omega.{arith}
-use lib.ListN.{length}
 use Rattle.model.specs.Number.{numeral, numberAt}
-use Rattle.model.specs.Tree.{Expr, Exprs, Leaf, placeOf}
+use Rattle.model.specs.Tree.{Expr, Exprs, Leaf}
 use Rattle.model.specs.Tree.Expr.{always, negation, conjunction, leaf}
 use Rattle.model.specs.Tree.Exprs.{none, more}
 use Rattle.model.specs.Tree.Leaf.{source, destination, service, port, protocol, unread}
-use Rattle.model.specs.Ternary.{Tri, not₃, and₃, known, yes}
+use Rattle.model.specs.Ternary.{Tri, and₃, yes}
 use Rattle.model.specs.Matching.{value, values}
-use Rattle.model.specs.Standing.{Then, leafKind, kindOf, fields, size, Row, Body, Operands, Stands, Standing, StandingAll}
+use Rattle.model.specs.Standing.{Then, leafKind, kindOf, fields, size, Row, Body, Operands, Standing, StandingAll}
 use Rattle.model.proofs.Standing.{leaf-kind}
 use Rattle.numbers.specs.Told.{Legible}
 use Rattle.model.proofs.StandingPast.{stands-past}

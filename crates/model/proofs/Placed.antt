@@ -1,22 +1,21 @@
 -- Every expression of a book that was read stands in it, and so does every condition of its list.
 use Prim.Native.Nat.{ℕ, zero, suc}
-use mathlib.Core.List.{List, [], _∷_, _++_}
+use mathlib.Core.List.{List}
 use mathlib.Core.Path.{_≡_, refl, sym, subst}
 use lib.Dec.{leb}
-use lib.ListN.{length, getD}
+use lib.ListN.{length}
 use Rattle.model.specs.Limits.{bookBytes, levelsMost, chainsMost, weightMost}
 use Rattle.model.specs.Answer as answer
 use Rattle.model.specs.Answer.{fine, when}
 use mathlib.Core.Bool.{Bool, true, false}
 use mathlib.Core.Option.{Option, none, some}
 use Rattle.model.specs.Reader.{Stand, Read, got, refused, Reader, each}
-use Rattle.model.specs.Tree.{Expr, placeOf, Rule, Book, Action, Every}
-use Rattle.model.specs.Tree.Action.{accept, drop, reject, log, empty, return, call}
-use Rattle.model.specs.Book.{within, expression, actionIn, rule, ruleCount, chain, wholeBook, bookOf, end, start}
-use Rattle.model.specs.Calls.{readable, checked, lowestLoop, weight, chainOf}
+use Rattle.model.specs.Tree.{Rule, Book, Every}
+use Rattle.model.specs.Book.{within, expression, actionIn, rule, ruleCount, chain, bookOf, end, start}
+use Rattle.model.specs.Calls.{readable, checked, lowestLoop, weight}
 use Rattle.model.specs.Standing.{Stands, Placed, RuleStands, BookStands}
 use Rattle.model.specs.Unfolding.{Listed, listOf}
-use Rattle.model.proofs.Success.{Got, got-after, got-as, got-when, Fine}
+use Rattle.model.proofs.Success.{Got, got-after, got-when, Fine}
 use Rattle.model.proofs.Standing.{expression-stands}
 use Rattle.model.proofs.EveryRule.{every-as, every-all, list-matches}
 

@@ -1,22 +1,22 @@
 -- A rule by number: each rule of a book that was read has its own bytes, and the entry hands back those of the rule asked for.
-use Prim.Native.Nat.{ℕ, zero, suc, _+_, _-_, _≤_, _<_}
+use Prim.Native.Nat.{ℕ, zero, suc, _-_, _≤_, _<_}
 use native.Mathlib.Omega.{arith}
 use mathlib.Core.Bool.{Bool, true, false, _&&_}
-use mathlib.Core.List.{List, [], _∷_, _++_}
+use mathlib.Core.List.{List, [], _∷_}
 use mathlib.Core.Logic.{_≢_}
 use mathlib.Core.Path.{_≡_, refl, ap, sym, _∙_, subst}
-use lib.Dec.{eqb, leb, ltb, eqb→eq}
+use lib.Dec.{eqb, ltb, eqb→eq}
 use lib.ListN.{length, length-take, length-drop}
 use lib.ListN as lists
-use Rattle.model.specs.Limits.{bookBytes, levelsMost, chainsMost}
-use Rattle.model.specs.Answer.{Answer, fine, refused, when}
-use Rattle.model.specs.Reader.{Stand, each}
+use Rattle.model.specs.Limits.{levelsMost}
+use Rattle.model.specs.Answer.{fine, when}
+use Rattle.model.specs.Reader.{Stand}
 use Rattle.model.specs.Number.{number}
-use Rattle.model.specs.Tree.{Expr, placeOf, Rule, Book, Action, rulesOf, allRules, Every}
+use Rattle.model.specs.Tree.{Rule, Book, Action, rulesOf, Every}
 use Rattle.model.specs.Tree.Action.{accept, drop, reject, log, empty, return, call}
-use Rattle.model.specs.Book.{expression, calledChain, actionIn, rule, ruleCount, chain, within, wholeBook, bookOf, end, start}
-use Rattle.model.specs.Calls.{readable, checked}
-use Rattle.model.specs.Standing.{Row, Then, Stands, actionRow, RuleWritten}
+use Rattle.model.specs.Book.{expression, calledChain, actionIn, rule, bookOf}
+use Rattle.model.specs.Calls.{readable}
+use Rattle.model.specs.Standing.{Row, Stands, actionRow, RuleWritten}
 use Rattle.model.specs.Entries.{ruleOf, ownBytes, ruleEntry}
 use Rattle.model.proofs.Success.{Got, got-after, got-either, fine-is, fine-same, behind}
 use Rattle.model.proofs.Standing.{number-stands, expression-stands}

@@ -1,11 +1,11 @@
 -- Where a reading or an answer is no refusal: what holds of the value that it gives, and how that passes through readers put together.
 use Prim.Native.Nat.{ℕ, zero, suc, _≤_, _<_}
-use mathlib.Core.Bool.{Bool, true, false, _&&_, _||_, and-eq-true-iff}
+use mathlib.Core.Bool.{Bool, true, false, _&&_, and-eq-true-iff}
 use mathlib.Core.List.{List, [], _∷_}
 use mathlib.Core.Path.{_≡_, refl, ap, subst}
 use native.Mathlib.Omega.{arith}
-use lib.Dec.{leb, ltb, eqb}
-use lib.ListN.{length, getD, drop}
+use lib.Dec.{leb, eqb}
+use lib.ListN.{length}
 use borrow.Author.Tests.{leb-true}
 use Rattle.model.specs.Answer as answer
 use Rattle.model.specs.Answer.{Answer, fine, when}

@@ -1,7 +1,7 @@
 -- What is left to find out after some bytes of a number were read: the step from one byte to the next. Assumes nothing.
 use Prim.Native.Nat.{ℕ, zero, suc, _+_, _-_, _*_, _%_, _^_, _<_, _≤_}
-use mathlib.Core.Path.{_≡_, refl, sym, ap, _∙_}
-use mathlib.Core.List.{List, [], _∷_}
+use mathlib.Core.Path.{_≡_, refl, sym, _∙_}
+use mathlib.Core.List.{List, []}
 use mathlib.Core.Bool.{Bool, true, false, _&&_}
 use native.Mathlib.Nat.{mul-add, mul-assoc, add-assoc, mul-comm, one-mul, zero-add, pow-le-pow-right, pow-suc, mul-le-mul, mul-le-mul-right, le-pred-of-lt}
 use native.Mathlib.Numerals.{add-one, sub-one}

@@ -6,9 +6,6 @@ use Rattle.numbers.specs.Told.{told}
 use Rattle.numbers.specs.Field.{fieldAt}
 use Rattle.numbers.proofs.read_field.Statement.{statement}
 use Rattle.numbers.proofs.read_field.Tie as tie
-use Rattle.numbers.proofs.read_field.Reads as reads
-use Rattle.numbers.proofs.read_field.Lts as lts
-use Rattle.numbers.proofs.read_number.Reads as read-number-reads
 
 read-number-requires : tie.Need-read-number-requires
 read-number-requires c κs = search needs
