@@ -9,9 +9,10 @@ use lib.ListN.{length, getD, set, replicate, length-set, length-replicate, getD-
 use lib.Seq.{getD-set-same, getD-set-other}
 use lib.Dec.{eqb, ltb}
 use borrow.Author.Tests.{eqb-true, eqb-false, lt-ltb, le-ltb}
-use Rattle.calls.specs.Contents.{Shape, weighAt, rulesOf}
-use Rattle.calls.specs.Weights.{capped, AllCapped, Weighed, Weighing, Upto}
-use Rattle.model.specs.Limits.{chainsMost}
+use Rattle.book.specs.Contents.{Shape, rulesIn}
+use Rattle.calls.specs.Actions.{weighAt}
+use Rattle.calls.specs.Weights.{capped, AllCapped, Weighed, Ranked, Weighing, Upto}
+use Rattle.model.specs.Limits.{chainsMost, weightMost}
 use Rattle.calls.specs.Heavy.{heavy}
 use Rattle.calls.proofs.Bools.{same}
 
@@ -40,10 +41,10 @@ module _ (first action target : List ℕ) (chains rules level : ℕ) (shape : Sh
   module _ (weights : List ℕ) (c : ℕ) (lt : c < chains) (h : Level c weights) where
     pub calls-weighed : rank c ≡ level → Weighed first action target w weights c
     calls-weighed e i a l q =
-        let f = by .falls c i lt a l q in
+        let f = by .ranked .falls c i lt a l q in
         h .lower (getD target i 0) (shape .known i (omega (arith, shape .inside c lt)) q) (omega arith)
 
-    pub level-weighed : AllCapped weights → rank c ≡ level → (v : ℕ) → v ≡ capped (weighAt action target w (getD first c 0) (rulesOf first c)) → Level (c + 1) (set weights c v)
+    pub level-weighed : AllCapped weights → rank c ≡ level → (v : ℕ) → v ≡ capped (weighAt action target w (getD first c 0) (rulesIn first c)) → Level (c + 1) (set weights c v)
     level-weighed all e v q =
         let size : c < length weights = rw (all .size) (omega (arith, shape .few)) in
         record {
@@ -61,10 +62,9 @@ module _ (first action target : List ℕ) (chains rules level : ℕ) (shape : Sh
   level-done weights c ge h x l r = elim (ℕ-discrete (rank x) level) [ yes e ↦ h .here x l e (omega arith) | no ne ↦ h .lower x l (omega arith) ]
 
 -- another writing of the ranks serves as well
-pub same-ranks : {first action target : List ℕ} {chains rules : ℕ} {rank w : ℕ → ℕ} (r : ℕ → ℕ) → Shape first action target chains rules → ((c : ℕ) → c < chains → r c ≡ rank c)
-    → Weighing first action target chains rank w → Weighing first action target chains r w
+pub same-ranks : {first action target : List ℕ} {chains rules : ℕ} {rank : ℕ → ℕ} (r : ℕ → ℕ) → Shape first action target chains rules → ((c : ℕ) → c < chains → r c ≡ rank c)
+    → Ranked first action target chains rank → Ranked first action target chains r
 same-ranks r shape e by = record {
-  recursive = by .recursive;
   falls = λ c i lt a l q. omega (arith, e c lt, e _ (shape .known i (omega (arith, shape .inside c lt)) q), by .falls c i lt a l q);
   below = λ c lt. omega (arith, e c lt, by .below c lt);
 }
@@ -76,5 +76,5 @@ ranked-next all rank c v lt e h x l = elim (ℕ-discrete x c) [
   | no ne ↦ getD-set-other all c x v 0 ne ∙ h x (omega arith)
 ]
 
-pub too-heavy : (n v : ℕ) → v ≡ capped n → eqb v heavy ≡ ltb 16384 n
-too-heavy n v e = same (eqb v heavy) (ltb 16384 n) (λ q. let f = eqb-true v heavy q in lt-ltb 16384 n (omega arith)) (λ q. let f = eqb-false v heavy q in le-ltb 16384 n (omega arith))
+pub too-heavy : (n v : ℕ) → v ≡ capped n → eqb v heavy ≡ ltb weightMost n
+too-heavy n v e = same (eqb v heavy) (ltb weightMost n) (λ q. let f = eqb-true v heavy q in lt-ltb weightMost n (omega arith)) (λ q. let f = eqb-false v heavy q in le-ltb weightMost n (omega arith))

@@ -7,4 +7,5 @@ pub mod Rules
 pub mod Graph
 pub mod Levels
 pub mod Answers
+pub mod Charted
 pub mod Example

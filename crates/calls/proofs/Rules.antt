@@ -12,7 +12,7 @@ use lib.Dec.{eqb, ltb}
 use borrow.Author.Tests.{eqb-true, eqb-false, eq-eqb, ne-eqb, lt-ltb, le-ltb}
 use Rattle.model.specs.Answer.{when}
 use Rattle.calls.specs.Sets.{has, inRow, Relation, Holds}
-use Rattle.calls.specs.Contents.{callsAt, callsIn, weighAt}
+use Rattle.calls.specs.Actions.{callsAt, callsIn, weighAt}
 use Rattle.calls.specs.Weights.{capped}
 use Rattle.calls.proofs.Bits.{has-nothing}
 use Rattle.calls.proofs.Tables.{ltb-next, in-empty}
@@ -108,7 +108,7 @@ module _ (sets : List ℕ) where
     | no ne ↦ rw (ltb-next d c ne)
   ]
 
-  pub own-all : (c out : ℕ) → 64 ≤ c → Own c out → (d : ℕ) → d < chainsMost → has out d ≡ inRow sets d d
+  pub own-all : (c out : ℕ) → chainsMost ≤ c → Own c out → (d : ℕ) → d < chainsMost → has out d ≡ inRow sets d d
   own-all c out ge h d l = h d l ∙ rw (lt-ltb d c (omega arith))
 
 -- ---- the weight of what is left

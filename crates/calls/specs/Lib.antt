@@ -1,6 +1,6 @@
 pub mod Heavy
 pub mod Sets
-pub mod Contents
+pub mod Actions
 pub mod Reached
 pub mod Weights
 pub mod Checked

@@ -1,4 +1,8 @@
 // Which chain reaches itself by calls, how calls rank, and whether the entry is too heavy: over a read book's contents.
+use book::CHAINS;
+use book::ChainNumber;
+use book::RULES;
+use book::STARTS;
 ghost use mathlib.Core.Path.{_≡_};
 ghost use mathlib.Core.Bool.{_&&_, _||_};
 ghost use Prim.Native.Nat.{ℕ, suc, _+_, _<_, _≤_};
@@ -7,25 +11,20 @@ ghost use lib.Dec.{eqb, ltb};
 ghost use Rattle.model.specs.Tree.{Book};
 ghost use Rattle.model.specs.Reader.{Stand, got};
 ghost use Rattle.model.specs.Calls.{LoopFree, lowestLoop, weight, checked};
-ghost use Rattle.model.specs.Limits.{chainsMost};
+ghost use Rattle.model.specs.Limits.{chainsMost, weightMost};
 ghost use Rattle.calls.specs.Heavy.{heavy};
 ghost use Rattle.calls.specs.Sets.{has, inRow, Table, Added, Joined, Passed, rankOf, Fit, Holds};
-ghost use Rattle.calls.specs.Contents.{Shape, Contents, callsIn, weighAt, rulesOf};
+ghost use Rattle.book.specs.Contents.{Shape, rulesIn};
+ghost use Rattle.calls.specs.Actions.{Actions, callsIn, weighAt};
 ghost use Rattle.calls.specs.Reached.{calls, reach, Reached};
 ghost use Rattle.calls.specs.Weights.{rankIn, capped, AllCapped, Weighed, Weighing, Upto};
 ghost use Rattle.calls.specs.Checked.{loopOf, answerOf};
 
-pub const CHAINS: usize = 64;
-
-// One more than the chains: where the last chain's rules end.
-pub const STARTS: usize = 65;
-
-pub const RULES: usize = 1024;
+// Document 01's number of the action.
+const CALL: u8 = 6;
 
 // One more than a book's entry may weigh: it stands for every greater weight.
 const HEAVY: u32 = 16385;
-
-pub struct ChainNumber(pub u32);
 
 // The lowest chain that reaches itself.
 pub enum Loops {
@@ -110,7 +109,7 @@ fn add_calls<'a>(
     let end = first[c + 1] as usize;
     let mut i = first[c] as usize;
     while i < end {
-        if action[i] == 6 {
+        if action[i] == CALL {
             add(sets, c, target[i] as usize);
         }
         i += 1;
@@ -125,7 +124,7 @@ pub fn call_sets<'a>(
     rules: usize,
 ) -> [u64; CHAINS]
     requires { ⌜ Shape (now first) (now action) (now target) chains rules ⌝ }
-    ensures { λ r. ⌜ Fit r × ((b : Book) → Contents b (now (first .entry)) (now (action .entry)) (now (target .entry)) chains rules → Table r (calls b)) ⌝ }
+    ensures { λ r. ⌜ Fit r × ((b : Book) → Actions b (now (first .entry)) (now (action .entry)) (now (target .entry)) chains rules → Table r (calls b)) ⌝ }
 {
     let mut sets = [0u64; CHAINS];
     let mut c: usize = 0;
@@ -144,7 +143,7 @@ pub fn reached<'a>(
     rules: usize,
 ) -> [u64; CHAINS]
     requires { ⌜ Shape (now first) (now action) (now target) chains rules ⌝ }
-    ensures { λ r. ⌜ ((b : Book) → Contents b (now (first .entry)) (now (action .entry)) (now (target .entry)) chains rules → Reached b r) ⌝ }
+    ensures { λ r. ⌜ ((b : Book) → Actions b (now (first .entry)) (now (action .entry)) (now (target .entry)) chains rules → Reached b r) ⌝ }
 {
     let mut sets = call_sets(first, action, target, chains, rules);
     close(&mut sets, chains);
@@ -208,13 +207,13 @@ fn weigh<'a>(
     weights: &[u32; CHAINS],
 ) -> u32
     requires { ⌜ Shape (now first) (now action) (now target) chains rules × (c < chains) × AllCapped (now weights) ⌝ }
-    ensures { λ r. ⌜ (r ≤ heavy) × ((w : ℕ → ℕ) → Weighed (now (first .entry)) (now (action .entry)) (now (target .entry)) w (now (weights .entry)) c → r ≡ capped (weighAt (now (action .entry)) (now (target .entry)) w (getD (now (first .entry)) c 0) (rulesOf (now (first .entry)) c))) ⌝ }
+    ensures { λ r. ⌜ (r ≤ heavy) × ((w : ℕ → ℕ) → Weighed (now (first .entry)) (now (action .entry)) (now (target .entry)) w (now (weights .entry)) c → r ≡ capped (weighAt (now (action .entry)) (now (target .entry)) w (getD (now (first .entry)) c 0) (rulesIn (now (first .entry)) c))) ⌝ }
 {
     let end = first[c + 1] as usize;
     let mut i = first[c] as usize;
     let mut sum: u32 = 0;
     while i < end {
-        if action[i] == 6 {
+        if action[i] == CALL {
             sum = plus(sum, weights[target[i] as usize]);
         } else {
             sum = plus(sum, 0);
@@ -291,7 +290,7 @@ pub fn too_heavy<'a>(
     rules: usize,
 ) -> bool
     requires { ⌜ Shape (now first) (now action) (now target) chains rules ⌝ }
-    ensures { λ r. ⌜ ((b : Book) → Contents b (now (first .entry)) (now (action .entry)) (now (target .entry)) chains rules → Reached b (now (sets .entry)) → LoopFree b → r ≡ ltb 16384 (weight (length (b .chains)) b 0)) ⌝ }
+    ensures { λ r. ⌜ ((b : Book) → Actions b (now (first .entry)) (now (action .entry)) (now (target .entry)) chains rules → Reached b (now (sets .entry)) → LoopFree b → r ≡ ltb weightMost (weight (length (b .chains)) b 0)) ⌝ }
 {
     let order = ranks(sets, chains);
     let all = weights(first, action, target, &order, chains, rules);
@@ -308,7 +307,7 @@ pub fn check_calls<'a>(
     rules: usize,
 ) -> CallCheck
     requires { ⌜ Shape (now first) (now action) (now target) chains rules ⌝ }
-    ensures { λ r. ⌜ ((b : Book) (st : Stand) → Contents b (now (first .entry)) (now (action .entry)) (now (target .entry)) chains rules → Reached b (now (sets .entry)) → answerOf b r ≡ checked (got b st)) ⌝ }
+    ensures { λ r. ⌜ ((b : Book) (st : Stand) → Actions b (now (first .entry)) (now (action .entry)) (now (target .entry)) chains rules → Reached b (now (sets .entry)) → answerOf b r ≡ checked (got b st)) ⌝ }
 {
     let l = lowest_loop(sets);
     if let Loops::At(c) = l {

@@ -6,7 +6,7 @@ use mathlib.Core.Path.{_≡_, _∙_}
 use lib.ListN.{getD}
 use denote.Ref.{now}
 use Rattle.calls.specs.Weights.{capped, Weighed}
-use Rattle.calls.specs.Contents.{weighAt}
+use Rattle.calls.specs.Actions.{weighAt}
 use Rattle.calls.proofs.Rules.{weigh-none, weigh-call, weigh-other}
 use Rattle.calls.proofs.weigh.Statement.{statement}
 use Rattle.model.specs.Limits.{chainsMost}

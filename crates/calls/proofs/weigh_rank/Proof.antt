@@ -7,7 +7,7 @@ use mathlib.Core.Path.{sym, subst}
 use denote.Ref.{now}
 use Rattle.calls.proofs.Levels.{Level, level-first, level-done, calls-weighed, level-weighed, level-skipped, capped-set}
 use Rattle.calls.specs.Weights.{rankIn, AllCapped, Weighing, Upto}
-use Rattle.calls.specs.Contents.{Shape}
+use Rattle.book.specs.Contents.{Shape}
 use Rattle.model.specs.Limits.{chainsMost}
 use Rattle.calls.proofs.weigh_rank.Statement.{statement}
 use Rattle.calls.proofs.weigh_rank.Tie as tie
