@@ -1,1 +1,4 @@
 pub mod Contents
+pub mod Own
+pub mod Told
+pub mod Held

@@ -1,0 +1,9 @@
+pub mod Linear
+pub mod Bounded
+pub mod Recursive
+pub mod Caps
+pub mod Numbers
+pub mod Steps
+pub mod Ranks
+pub mod Exact
+pub mod Example

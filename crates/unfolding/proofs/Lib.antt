@@ -1,0 +1,13 @@
+pub mod Puts
+pub mod Entries
+pub mod Actions
+pub mod Entered
+pub mod Going
+pub mod Chain
+pub mod ListWords
+pub mod Sums
+pub mod LoopFreeOrder
+pub mod Whole
+pub mod Readable
+pub mod Unique
+pub mod Uses

@@ -1,0 +1,4 @@
+pub mod Put
+pub mod Emitted
+pub mod Walking
+pub mod Unfolded
