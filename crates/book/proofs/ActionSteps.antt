@@ -1,12 +1,9 @@
 -- An action and the chain that it calls: one law for each way through the code.
 use Prim.Native.Nat.{ℕ, zero, suc, _-_, _≤_, _<_}
-use mathlib.Core.Bool.{true, false, _&&_}
 use mathlib.Core.List.{List}
-use mathlib.Core.Path.{_≡_, refl, sym, _∙_}
+use mathlib.Core.Path.{_≡_}
 use native.Mathlib.Omega.{arith}
-use lib.Dec.{ltb}
 use borrow.Author.Tests.{lt-ltb, le-ltb}
-use Rattle.model.specs.Reader.{Read, got, refused}
 use Rattle.model.specs.Number.{numeral, illegible, number, numberAt}
 use Rattle.model.specs.Book.{actionIn}
 use Rattle.expressions.specs.Told.{stand}

@@ -1,7 +1,7 @@
 -- What an answer to a book says, for the crates above: `Fine` is a book that was read, with its contents.
 use Prim.Native.Nat.{ℕ, suc, _≤_, _<_, _-_}
-use mathlib.Core.List.{List, [], _∷_, map}
-use mathlib.Core.Path.{_≡_, refl, sym, ap, _∙_, subst}
+use mathlib.Core.List.{List, map}
+use mathlib.Core.Path.{_≡_, refl, sym, ap, subst}
 use native.Mathlib.Omega.{arith}
 use lib.ListN.{length, getD, take, drop, length-map, length-take, length-drop}
 use Rattle.model.specs.Limits.{chainsMost, rulesMost}
@@ -13,7 +13,6 @@ use Rattle.book.specs.Contents.{padded, starts, contentsOf, Charted}
 use Rattle.book.specs.Own.{Owned, Part, ownBytes, ruleAt}
 use Rattle.book.specs.Told.{noContents, bookAnswer}
 use Rattle.book.specs.declared.Contents.{Contents}
-use Rattle.book.specs.declared.BookRead.{BookRead}
 use Rattle.book.specs.declared.BookRead.the-variants.{Fine, Refused}
 use Rattle.book.specs.declared.BookAnswer.{BookAnswer}
 use Rattle.book.proofs.Padding.{padded-length}

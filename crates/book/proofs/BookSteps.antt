@@ -1,13 +1,11 @@
 -- The whole book, from its end to its beginning: one law for each way through the code.
-use Prim.Native.Nat.{ℕ, zero, suc, _≤_, _<_}
-use mathlib.Core.List.{List, [], _∷_}
-use mathlib.Core.Path.{_≡_, refl, sym, ap, _∙_, subst}
+use Prim.Native.Nat.{ℕ, suc, _≤_, _<_}
+use mathlib.Core.List.{List, []}
+use mathlib.Core.Path.{_≡_, sym, ap, _∙_, subst}
 use native.Mathlib.Omega.{arith}
-use lib.Dec.{leb, eqb}
 use lib.ListN.{length, replicate}
 use borrow.Author.Tests.{le-leb, lt-leb, eq-eqb, ne-eqb}
 use Rattle.model.specs.Limits.{bookBytes, chainsMost, rulesMost}
-use Rattle.model.specs.Answer.{when}
 use Rattle.model.specs.Reader.{Stand, Read, got, refused, after, each}
 use Rattle.model.specs.Number.{numeral, illegible}
 use Rattle.model.specs.Tree.{Rule, Book}
@@ -18,7 +16,7 @@ use Rattle.expressions.specs.Told.{stand}
 use Rattle.expressions.proofs.Fields.{field-got, field-refused}
 use Rattle.book.specs.Contents.{starts, contentsOf}
 use Rattle.book.specs.Told.{Finds, chainsTold, behindPolicy, behindChains, refusedBook, bookAnswer}
-use Rattle.book.specs.Held.{Held, Charting}
+use Rattle.book.specs.Held.{Charting}
 use Rattle.book.specs.declared.ChainsRead.the-variants.{Got, Refused}
 use Rattle.book.specs.declared.BookRead.the-variants as bookRead
 use Rattle.book.specs.declared.BookAnswer.{BookAnswer}

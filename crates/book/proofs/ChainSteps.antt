@@ -1,5 +1,5 @@
 -- The loop over the chains: one law for each way through the code.
-use Prim.Native.Nat.{ℕ, zero, suc, _+_, _-_, _≤_, _<_, zero-le}
+use Prim.Native.Nat.{ℕ, suc, _+_, _-_, _≤_, _<_, zero-le}
 use mathlib.Core.Bool.{Bool, true, false, _&&_}
 use mathlib.Core.List.{List, [], _∷_, _++_, append-assoc, append-nil}
 use mathlib.Core.Path.{_≡_, refl, sym, ap, _∙_, subst}
@@ -22,7 +22,7 @@ use Rattle.expressions.specs.declared.ExpressionRead.the-variants as expression
 use Rattle.expressions.proofs.Ends.{told-refusal}
 use Rattle.book.specs.Contents.{padded, starts}
 use Rattle.book.specs.Told.{Finds, chainsTold}
-use Rattle.book.specs.Held.{Held, Holding, Charting}
+use Rattle.book.specs.Held.{Held, Charting}
 use Rattle.book.specs.declared.ChainsRead.{ChainsRead}
 use Rattle.book.specs.declared.ChainsRead.the-variants.{Got, Refused}
 use Rattle.book.proofs.Padding.{padded-set}

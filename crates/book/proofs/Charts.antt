@@ -1,22 +1,20 @@
 -- The contents of a book that was read are its chart: its chains can be walked by them.
-use Prim.Native.Nat.{ℕ, zero, suc, _+_, _-_, _≤_, _<_}
+use Prim.Native.Nat.{ℕ, zero, suc, _+_, _≤_, _<_}
 use mathlib.Core.List.{List, [], _∷_, _++_, map}
 use mathlib.Core.Path.{_≡_, refl, sym, ap, ap₂, _∙_, subst}
 use native.Mathlib.Omega.{arith}
-use native.Mathlib.Nat.{add-suc, add-zero, zero-add, add-assoc}
+use native.Mathlib.Nat.{add-zero, zero-add}
 use native.Mathlib.Numerals.{add-one}
 use lib.ListN.{length, getD, length-append, List·getD-map}
 use lib.Seq.{getD-append-add}
-use Rattle.model.specs.Limits.{bookBytes, chainsMost, rulesMost}
+use Rattle.model.specs.Limits.{chainsMost, rulesMost}
 use Rattle.model.specs.Reader.{Stand, got}
-use Rattle.model.specs.Tree.{Expr, placeOf, Rule, Book, Action, Every, allRules, rulesOf}
-use Rattle.model.specs.Tree.Expr.{always}
+use Rattle.model.specs.Tree.{placeOf, Rule, Book, Action, Every, allRules, rulesOf}
 use Rattle.model.specs.Tree.Action.{accept, drop, reject, log, empty, return, call}
 use Rattle.model.specs.Book.{bookOf}
 use Rattle.model.specs.Calls.{chainOf}
-use Rattle.model.specs.Standing.{RuleStands}
 use Rattle.model.proofs.BookRead.{ActionFine}
-use Rattle.book.specs.Contents.{actionNumber, targetNumber, padded, starts, contentsOf, actionOf, rulesIn, Shape, Noted, NotedAll, Charted}
+use Rattle.book.specs.Contents.{actionNumber, targetNumber, padded, starts, contentsOf, actionOf, Noted, NotedAll, Charted}
 use Rattle.book.specs.Own.{noRule, ruleAt, Owned}
 use Rattle.book.proofs.Padding.{padded-at}
 use Rattle.book.proofs.Known.{KnownRule, KnownBook, Numbered, numbered-last, book-known}

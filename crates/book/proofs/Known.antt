@@ -3,14 +3,14 @@ use Prim.Native.Nat.{ℕ, zero, suc, _+_, _≤_, _<_}
 use mathlib.Core.List.{List, [], _∷_, _++_}
 use mathlib.Core.Path.{_≡_, refl, sym, subst}
 use native.Mathlib.Omega.{arith}
-use native.Mathlib.Nat.{add-suc, add-zero}
+use native.Mathlib.Nat.{add-zero}
 use lib.Dec.{leb}
 use lib.ListN.{length, length-append}
 use borrow.Author.Tests.{leb-true}
 use Rattle.model.specs.Limits.{bookBytes, chainsMost, rulesMost, levelsMost}
 use Rattle.model.specs.Reader.{Stand, Read, got, refused, each}
 use Rattle.model.specs.Number.{number}
-use Rattle.model.specs.Tree.{Expr, placeOf, Rule, Book, Every, allRules, rulesOf}
+use Rattle.model.specs.Tree.{placeOf, Rule, Book, Every, allRules, rulesOf}
 use Rattle.model.specs.Book.{within, expression, actionIn, rule, ruleCount, chain, wholeBook, bookOf, end, start}
 use Rattle.model.specs.Standing.{Stands, RuleStands, BookStands}
 use Rattle.model.proofs.BookRead.{ActionFine}

@@ -9,7 +9,7 @@ use lib.ListN.{length}
 use borrow.Author.Tests.{ltb-true, leb-true}
 use Rattle.model.specs.Reader.{Stand, Read, got, refused, Reader, each}
 use Rattle.model.specs.Number.{Numeral, numeral, illegible, onward, number, numberAt}
-use Rattle.model.specs.Tree.{Expr, Action}
+use Rattle.model.specs.Tree.{Expr}
 use Rattle.model.specs.Book.{within, expression, calledChain, actionIn}
 use Rattle.model.proofs.NumberPast.{number-past}
 use Rattle.model.proofs.Success.{Got, got-after, got-either}

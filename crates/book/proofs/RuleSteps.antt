@@ -1,12 +1,12 @@
 -- A rule, and the loop over the rules of a chain: one law for each way through the code.
-use Prim.Native.Nat.{ℕ, zero, suc, _+_, _-_, _≤_, _<_}
+use Prim.Native.Nat.{ℕ, _+_, _-_, _≤_, _<_}
 use mathlib.Core.List.{List, [], _∷_, _++_, append-assoc, append-nil}
-use mathlib.Core.Path.{_≡_, refl, sym, ap, ap₂, _∙_, subst}
+use mathlib.Core.Path.{_≡_, refl, sym, ap, _∙_, subst}
 use native.Mathlib.Omega.{arith}
 use lib.ListN.{length, length-append}
-use Rattle.model.specs.Limits.{bookBytes, chainsMost, rulesMost, levelsMost}
-use Rattle.model.specs.Reader.{Stand, Read, got, refused, after, each}
-use Rattle.model.specs.Tree.{Expr, placeOf, Rule, Action}
+use Rattle.model.specs.Limits.{bookBytes, chainsMost, levelsMost}
+use Rattle.model.specs.Reader.{Stand, Read, got, refused, each}
+use Rattle.model.specs.Tree.{Rule, Action}
 use Rattle.model.specs.Tree.Action.{accept, drop, reject, log, empty, return, call}
 use Rattle.model.specs.Book.{expression, actionIn, rule}
 use Rattle.model.proofs.BookRead.{ActionFine}
@@ -21,7 +21,6 @@ use Rattle.book.specs.Told.{Finds, chainNumber, actionTold, seenOf, rule
 use Rattle.book.specs.Held.{Small, Seen}
 use Rattle.book.specs.declared.ChainNumber.{ChainNumber}
 use Rattle.book.specs.declared.RuleSeen.{RuleSeen}
-use Rattle.book.specs.declared.ActionRead.{ActionRead}
 use Rattle.book.specs.declared.ActionRead.the-variants as actionRead
 use Rattle.book.specs.declared.RuleRead.{RuleRead}
 use Rattle.book.specs.declared.RuleRead.the-variants as ruleRead

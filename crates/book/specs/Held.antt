@@ -2,7 +2,6 @@
 use Prim.Native.Nat.{ℕ, suc, _≤_, _<_}
 use mathlib.Core.List.{List, map}
 use mathlib.Core.Path.{_≡_}
-use lib.ListN.{length}
 use Rattle.model.specs.Limits.{bookBytes, chainsMost, rulesMost}
 use Rattle.model.specs.Tree.{Rule, placeOf, allRules}
 use Rattle.book.specs.Contents.{actionNumber, targetNumber, padded, starts}
@@ -14,12 +13,6 @@ pub record Held (done : List Rule) (place action target expression end : List �
   pub targets : target ≡ padded rulesMost (map (λ (r : Rule). targetNumber (r .action)) done)
   pub matches : expression ≡ padded rulesMost (map (λ (r : Rule). placeOf (r .match)) done)
   pub ends : end ≡ padded rulesMost (map (λ (r : Rule). r .next) done)
-
--- some n rules
-pub record Holding (n : ℕ) (place action target expression end : List ℕ) : Type 0 where
-  pub done : List Rule
-  pub count : length done ≡ n
-  pub held : Held done place action target expression end
 
 -- what is noted of a rule fits its slots
 pub record Small (at : ℕ) (seen : RuleSeen) : Type 0 where

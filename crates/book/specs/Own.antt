@@ -3,7 +3,7 @@ use Prim.Native.Nat.{ℕ, _-_, _≤_, _<_}
 use mathlib.Core.List.{List}
 use mathlib.Core.Path.{_≡_}
 use lib.ListN.{length, getD, take, drop}
-use Rattle.model.specs.Tree.{Expr, placeOf, Rule, Book, rulesOf}
+use Rattle.model.specs.Tree.{placeOf, Rule, Book, rulesOf}
 use Rattle.model.specs.Tree.Expr.{always}
 use Rattle.model.specs.Tree.Action.{accept}
 use Rattle.model.specs.Standing.{RuleStands}

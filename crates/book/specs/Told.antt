@@ -9,7 +9,6 @@ use Rattle.model.specs.Tree.Action.{call}
 use Rattle.model.specs.Book.{within, calledChain, chain, rulesSoFar, end}
 use Rattle.book.specs.Contents.{actionNumber, targetNumber, contentsOf}
 use Rattle.book.specs.declared.Contents.{Contents}
-use Rattle.book.specs.declared.BookRead.{BookRead}
 use Rattle.book.specs.declared.BookRead.the-variants as bookRead
 use Rattle.book.specs.declared.BookAnswer.{BookAnswer}
 use Rattle.book.specs.declared.ChainsRead.{ChainsRead}

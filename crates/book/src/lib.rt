@@ -8,12 +8,12 @@ ghost use Rattle.model.specs.Book.{bookOf};
 ghost use Rattle.expressions.specs.Told.{stand};
 ghost use Rattle.book.specs.Told.{behindPolicy, behindChains, refusedBook, bookAnswer};
 ghost use Rattle.book.specs.Own.{Part, Owned, ownBytes, ruleAt};
+use chains::read_chains;
 use numbers::NumberRead;
 use numbers::read_field;
-use chains::read_chains;
 
-mod rules;
 mod chains;
+mod rules;
 
 // The chains of a book, at most; one more, for where the last chain's rules end; its rules, at most.
 pub const CHAINS: usize = 64;

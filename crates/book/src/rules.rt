@@ -9,15 +9,15 @@ ghost use Rattle.model.specs.Reader.{each};
 ghost use Rattle.model.specs.Book.{actionIn, rule};
 ghost use Rattle.expressions.specs.Told.{told, stand};
 ghost use Rattle.book.specs.Told.{Finds, actionTold, callIn, ruleTold};
-ghost use Rattle.book.specs.Held.{Held, Holding, Small, Seen};
-use super::RULES;
-use super::ChainNumber;
+ghost use Rattle.book.specs.Held.{Held, Small, Seen};
 use super::ActionRead;
-use super::RuleSeen;
+use super::ChainNumber;
+use super::RULES;
 use super::RuleRead;
+use super::RuleSeen;
 use expressions::ExpressionRead;
-use expressions::read_expression;
 use expressions::LEVELS;
+use expressions::read_expression;
 use numbers::NumberRead;
 use numbers::read_number;
 
@@ -87,7 +87,7 @@ pub fn note_rule(
     expression: &mut [u32; RULES],
     end: &mut [u32; RULES],
 )
-    requires { ⌜ (i < rulesMost) × Holding i (now place) (now action) (now target) (now expression) (now end) × Small at seen ⌝ }
+    requires { ⌜ (i < rulesMost) × Small at seen ⌝ }
     ensures { λ r. ⌜ ((done : List Rule) → length done ≡ i → Held done (now (place .entry)) (now (action .entry)) (now (target .entry)) (now (expression .entry)) (now (end .entry)) → (new : Rule) → Seen at seen new → Held (done ++ new ∷ []) (now (place .exit)) (now (action .exit)) (now (target .exit)) (now (expression .exit)) (now (end .exit))) ⌝ }
 {
     let called = seen.called;
@@ -112,7 +112,7 @@ pub fn read_rules(
     expression: &mut [u32; RULES],
     end: &mut [u32; RULES],
 ) -> ExpressionRead
-    requires { ⌜ (length (now s) ≤ bookBytes) × (chains ≤ chainsMost) × (last ≤ rulesMost) × Holding first (now place) (now action) (now target) (now expression) (now end) ⌝ }
+    requires { ⌜ (length (now s) ≤ bookBytes) × (chains ≤ chainsMost) × (last ≤ rulesMost) ⌝ }
     ensures answer { λ r. ⌜ r ≡ told (each (last - first) first (rule chains) (now (s .entry)) (stand at last sources)) ⌝ }
     ensures noted { λ r. ⌜ ((done : List Rule) → length done ≡ first → Held done (now (place .entry)) (now (action .entry)) (now (target .entry)) (now (expression .entry)) (now (end .entry)) → Finds (each (last - first) first (rule chains) (now (s .entry)) (stand at last sources)) (λ new. Held (done ++ new) (now (place .exit)) (now (action .exit)) (now (target .exit)) (now (expression .exit)) (now (end .exit)))) ⌝ }
 {

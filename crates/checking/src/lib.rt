@@ -2,8 +2,8 @@
 ghost use mathlib.Core.Path.{_≡_};
 ghost use Rattle.checking.specs.Checks.{judgement, Checks};
 use book::BookRead;
-use book::Contents;
 use book::CHAINS;
+use book::Contents;
 use book::read_book;
 use calls::CallCheck;
 use calls::check_calls;
@@ -49,7 +49,13 @@ pub fn check(book: &[u8]) -> Checked
         BookRead::Fine => {
             let chains = contents.chains;
             let rules = contents.rules;
-            let sets = reached(&contents.first, &contents.action, &contents.target, chains, rules);
+            let sets = reached(
+                &contents.first,
+                &contents.action,
+                &contents.target,
+                chains,
+                rules,
+            );
             let order = ranks(&sets, chains);
             let found = check_calls(
                 &contents.first,

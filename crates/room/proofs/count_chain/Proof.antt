@@ -87,7 +87,7 @@ add-up-to-most-2 : tie.Need-add-up-to-most-2 Inv-loop μ-loop
 add-up-to-most-2 c = let p = c .before .before .before .before in omega (arith, own-small p .words, p .before .before .before .before .loop .inv .4 .words)
 
 add-up-to-most-3 : tie.Need-add-up-to-most-3 Inv-loop μ-loop
-add-up-to-most-3 c = let p = c .before .before .before .before in omega (arith, few-conditions p, own-small p .words, p .before .before .before .before .loop .inv .4 .words)
+add-up-to-most-3 c = let p = c .before .before .before .before in omega (arith, few-conditions p, own-small p .rules, own-small p .words, p .before .before .before .before .loop .inv .4 .words)
 
 up-to-most-requires-2 : tie.Need-up-to-most-requires-2 Inv-loop μ-loop
 up-to-most-requires-2 c κs = tt

@@ -1,11 +1,10 @@
 -- Some chains were read and charted, and with what is still to be read they are all.
-use Prim.Native.Nat.{_≤_, _<_, _+_, _-_}
+use Prim.Native.Nat.{_≤_, _+_, _-_}
 use native.Mathlib.Omega.{arith}
 use mathlib.Core.Path.{_≡_, sym, _∙_, ap}
 use borrow.Author.Needs.{needs}
 use denote.Ref.{now}
 use Rattle.model.specs.Limits.{rulesMost}
-use Rattle.model.specs.Tree.{allRules}
 use Rattle.model.specs.Number.{numeral}
 use Rattle.numbers.specs.Told.{told}
 use Rattle.numbers.specs.Field.{fieldAt}
@@ -59,10 +58,8 @@ add-last c = omega (arith, room-left (c .before))
 read-rules-requires : tie.Need-read-rules-requires Inv-loop μ-loop
 read-rules-requires c κs =
     let k = c .before .before .before .before .before .before in
-    let l = k .before .before .before .before in
-    let pre = l .before .before .pre in
-    let b = l .loop .inv in
-    (pre .0, pre .1, room-left k, record { done = allRules (b .cs); count = b .total; held = b .held .rules })
+    let pre = k .before .before .before .before .before .before .pre in
+    (pre .0, pre .1, room-left k)
 
 enum-known-n-2 : tie.Need-enum-known-n-2 Inv-loop μ-loop
 enum-known-n-2 c = search needs

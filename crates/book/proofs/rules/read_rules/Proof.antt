@@ -1,11 +1,8 @@
 -- Some rules were read and noted, and with what is still to be read they are all.
-use Prim.Native.Nat.{_≤_, _-_}
+use Prim.Native.Nat.{_-_}
 use native.Mathlib.Omega.{arith}
-use mathlib.Core.Path.{_≡_, sym, _∙_, ap, subst}
-use mathlib.Core.List.{_++_}
-use lib.ListN.{length-append}
+use mathlib.Core.Path.{sym, _∙_}
 use borrow.Author.Needs.{needs}
-use Rattle.expressions.specs.Told.{told}
 use Rattle.book.specs.Held.{Held}
 use Rattle.book.proofs.RuleSteps.{Behind, rules-begin, rules-next, rules-refused, rules-end, rule-small}
 use Rattle.book.proofs.rules.read_rules.Statement.{statement}
@@ -41,11 +38,8 @@ note-rule-requires : tie.Need-note-rule-requires Inv-loop μ-loop
 note-rule-requires c κs =
     let v = c .before .before .before .before .before .before in
     let r = v .before .before in
-    let l = r .before .before in
-    let pre = l .before .before .pre in
-    let b = l .loop .inv in (
+    let pre = r .before .before .before .before .pre in (
       omega (arith, pre .2, r .before .loop-test .taken),
-      record { done = pre .3 .done ++ b .new; count = omega (arith, length-append (pre .3 .done) (b .new), pre .3 .count, b .count); held = b .held (pre .3 .done) (pre .3 .count) (pre .3 .held) },
       rule-small _ _ _ _ _ (λ i rules. sym (v .seen .given .1) ∙ r .read-rule .ensures i rules) (pre .0) (pre .1),
     )
 

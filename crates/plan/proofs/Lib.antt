@@ -1,0 +1,13 @@
+-- What the proofs of this crate cite.
+mod Put
+mod Fields
+mod Told
+mod Ranges
+mod Ports
+mod Whole
+mod Asking
+mod Held
+-- What those above cite.
+pub mod Known
+pub mod Charted
+pub mod Unique
