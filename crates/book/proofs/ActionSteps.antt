@@ -7,7 +7,7 @@ use borrow.Author.Tests.{lt-ltb, le-ltb}
 use Rattle.model.specs.Number.{numeral, illegible, number, numberAt}
 use Rattle.model.specs.Book.{actionIn}
 use Rattle.expressions.specs.Told.{stand}
-use Rattle.book.specs.Told.{chainNumber, actionTold, callIn}
+use Rattle.book.specs.Inner.{chainNumber, actionTold, callIn}
 use Rattle.book.specs.declared.ActionRead.{ActionRead}
 use Rattle.book.specs.declared.ActionRead.the-variants.{Got, Refused}
 

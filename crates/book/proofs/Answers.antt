@@ -7,10 +7,11 @@ use lib.ListN.{length, getD, take, drop, length-map, length-take, length-drop}
 use Rattle.model.specs.Limits.{chainsMost, rulesMost}
 use Rattle.model.specs.Reader.{Stand, Read, got, refused}
 use Rattle.model.specs.Tree.{Rule, Book, rulesOf}
+use Rattle.model.specs.Entries.{ownBytes}
 use Rattle.model.specs.Book.{bookOf}
 use Rattle.model.specs.Standing.{BookStands}
 use Rattle.book.specs.Contents.{padded, starts, contentsOf, Charted}
-use Rattle.book.specs.Own.{Owned, Part, ownBytes, ruleAt}
+use Rattle.book.specs.Own.{Owned, Part, ruleAt}
 use Rattle.book.specs.Told.{noContents, bookAnswer}
 use Rattle.book.specs.declared.Contents.{Contents}
 use Rattle.book.specs.declared.BookRead.the-variants.{Fine, Refused}

@@ -15,8 +15,10 @@ use Rattle.numbers.specs.Field.{fieldAt}
 use Rattle.expressions.specs.Told.{stand}
 use Rattle.expressions.proofs.Fields.{field-got, field-refused}
 use Rattle.book.specs.Contents.{starts, contentsOf}
-use Rattle.book.specs.Told.{Finds, chainsTold, behindPolicy, behindChains, refusedBook, bookAnswer}
+use Rattle.book.specs.Told.{refusedBook, bookAnswer}
+use Rattle.book.specs.Inner.{Finds, chainsTold, behindPolicy, behindChains}
 use Rattle.book.specs.Held.{Charting}
+use Rattle.book.specs.declared.ChainsRead.{ChainsRead}
 use Rattle.book.specs.declared.ChainsRead.the-variants.{Got, Refused}
 use Rattle.book.specs.declared.BookRead.the-variants as bookRead
 use Rattle.book.specs.declared.BookAnswer.{BookAnswer}
@@ -42,27 +44,27 @@ module _ (chains policy : ℕ) (s : List ℕ) (at : ℕ) where
   ended : List (List Rule) → Stand → Read Book
   ended cs st = after (end s st) (λ e st′. got (record { policy = policy; total = st .rules; chains = cs }) st′)
 
-  pub chains-refused : (n p : ℕ) → Refused n p ≡ chainsTold chainReads → Is (refusedBook n p)
+  pub chains-refused : (r : ChainsRead) → r ≡ chainsTold chainReads → (n p : ℕ) → r ≡ Refused n p → Is (refusedBook n p)
   unfolding bookAnswer
-  chains-refused n p h = sym (ap bookAnswer (after-refused chainReads _ n p (refusal chainReads h)))
+  chains-refused r h n p g = sym (ap bookAnswer (after-refused chainReads _ n p (refusal chainReads (sym g ∙ h))))
     where
       refusal : (m : Read (List (List Rule))) → Refused n p ≡ chainsTold m → m ≡ refused n p
       refusal (got cs st) e = let z : _≡_ {A = ℕ} 0 1 = cc in absurd (omega arith)
       refusal (refused x y) e = cc
 
-  pub bytes-after : (next rules : ℕ) → Got next rules ≡ chainsTold chainReads → (next ≡ length s → ⊥) → Is (refusedBook 8 next)
+  pub bytes-after : (r : ChainsRead) → r ≡ chainsTold chainReads → (next rules : ℕ) → r ≡ Got next rules → (next ≡ length s → ⊥) → Is (refusedBook 8 next)
   unfolding bookAnswer ended
-  bytes-after next rules h ne = go chainReads h
+  bytes-after r h next rules g ne = go chainReads (sym g ∙ h)
     where
       go : (m : Read (List (List Rule))) → Got next rules ≡ chainsTold m → refusedBook 8 next ≡ bookAnswer (after m ended)
       go (got cs st) e = let q : st .at ≡ next = cc in rw (q, ne-eqb next (length s) ne)
       go (refused x y) e = let z : _≡_ {A = ℕ} 0 1 = cc in absurd (omega arith)
 
-  pub all-read : (next rules : ℕ) → Got next rules ≡ chainsTold chainReads → next ≡ length s
+  pub all-read : (r : ChainsRead) → r ≡ chainsTold chainReads → (next rules : ℕ) → r ≡ Got next rules → next ≡ length s
       → (first place action target expression end : List ℕ) → Finds chainReads (λ cs. Charting cs first place action target expression end)
       → Is (record { read = bookRead.Fine; contents = record { policy = policy; chains = chains; rules = rules; first = first; place = place; action = action; target = target; expression = expression; end = end } })
   unfolding bookAnswer contentsOf ended
-  all-read next rules h eq first place action target expression end c = go chainReads h c (each-sized (λ i. chain chains) s chains 0 (stand at 0 0))
+  all-read r h next rules g eq first place action target expression end c = go chainReads (sym g ∙ h) c (each-sized (λ i. chain chains) s chains 0 (stand at 0 0))
     where
       go : (m : Read (List (List Rule))) → Got next rules ≡ chainsTold m → Finds m (λ cs. Charting cs first place action target expression end) → success.Got m (λ cs st′. length cs ≡ chains)
           → record { read = bookRead.Fine; contents = record { policy = policy; chains = chains; rules = rules; first = first; place = place; action = action; target = target; expression = expression; end = end } } ≡ bookAnswer (after m ended)

@@ -18,10 +18,11 @@ use Rattle.model.proofs.Tests.{tests, same}
 use Rattle.model.proofs.Success as success
 use Rattle.numbers.specs.Field.{bounded, fieldAt}
 use Rattle.expressions.specs.Told.{told, stand}
+use Rattle.expressions.specs.declared.ExpressionRead.{ExpressionRead}
 use Rattle.expressions.specs.declared.ExpressionRead.the-variants as expressionRead
 use Rattle.expressions.proofs.Ends.{told-refusal}
 use Rattle.book.specs.Contents.{padded, starts}
-use Rattle.book.specs.Told.{Finds, chainsTold}
+use Rattle.book.specs.Inner.{Finds, chainsTold}
 use Rattle.book.specs.Held.{Held, Charting}
 use Rattle.book.specs.declared.ChainsRead.{ChainsRead}
 use Rattle.book.specs.declared.ChainsRead.the-variants.{Got, Refused}
@@ -160,15 +161,15 @@ module _ (chains : ℕ) (s : List ℕ) (at : ℕ) where
         pub more-room : rules + count ≤ rulesMost
         more-room = count-fit chains s next rules sources (b .room) count from e .room
 
-        pub rules-refused : (n p : ℕ) → expressionRead.Refused n p ≡ told (ruleReads chains s next rules sources (b .room) count from e) → (Then : List (List Rule) → Type 0) → Answered Then (Refused n p)
-        rules-refused n p h Then = refused-so Then n p
-            (b .reads ∙ each-refused (λ i. chain chains) s chains c (stand next rules sources) lt n p (chain-rules chains s next rules sources (b .room) count from e ∙ told-refusal _ n p (sym h)) (b .cs))
+        pub rules-refused : (r : ExpressionRead) → r ≡ told (ruleReads chains s next rules sources (b .room) count from e) → (n p : ℕ) → r ≡ expressionRead.Refused n p → (Then : List (List Rule) → Type 0) → Answered Then (Refused n p)
+        rules-refused r h n p g Then = refused-so Then n p
+            (b .reads ∙ each-refused (λ i. chain chains) s chains c (stand next rules sources) lt n p (chain-rules chains s next rules sources (b .room) count from e ∙ told-refusal _ n p (sym h ∙ g)) (b .cs))
 
-        pub rules-got : (after sources′ : ℕ) → expressionRead.Got after sources′ ≡ told (ruleReads chains s next rules sources (b .room) count from e)
+        pub rules-got : (r : ExpressionRead) → r ≡ told (ruleReads chains s next rules sources (b .room) count from e) → (after sources′ : ℕ) → r ≡ expressionRead.Got after sources′
             → (Then : List (List Rule) → Type 0) → ((rs : List Rule) → length rs ≡ count → ruleReads chains s next rules sources (b .room) count from e ≡ got rs (stand after (rules + count) sources′) → Then (b .cs ++ rs ∷ []))
             → ChainsBehind Then after sources′ (rules + count) (c + 1)
-        rules-got after sources′ h Then k =
-            let f = found-rules chains s next rules sources (b .room) count from e after sources′ (sym h) in
+        rules-got r h after sources′ g Then k =
+            let f = found-rules chains s next rules sources (b .room) count from e after sources′ (sym h ∙ g) in
             record {
               cs = b .cs ++ f .rs ∷ [];
               count = omega (arith, length-append (b .cs) (f .rs ∷ []), b .count);

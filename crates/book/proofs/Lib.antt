@@ -3,6 +3,7 @@ pub mod Onward
 pub mod Known
 pub mod Padding
 pub mod Charts
+pub mod ByNumber
 mod ActionSteps
 mod Notes
 mod Afterwards

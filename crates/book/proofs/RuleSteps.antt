@@ -17,7 +17,7 @@ use Rattle.expressions.specs.declared.ExpressionRead.{ExpressionRead}
 use Rattle.expressions.specs.declared.ExpressionRead.the-variants as expressionRead
 use Rattle.expressions.proofs.Ends.{found, told-refusal}
 use Rattle.book.specs.Contents.{actionNumber, targetNumber}
-use Rattle.book.specs.Told.{Finds, chainNumber, actionTold, seenOf, ruleTold}
+use Rattle.book.specs.Inner.{Finds, chainNumber, actionTold, seenOf, ruleTold}
 use Rattle.book.specs.Held.{Small, Seen}
 use Rattle.book.specs.declared.ChainNumber.{ChainNumber}
 use Rattle.book.specs.declared.RuleSeen.{RuleSeen}

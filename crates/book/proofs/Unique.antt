@@ -2,9 +2,10 @@
 use Prim.Native.Nat.{ℕ}
 use mathlib.Core.List.{List}
 use mathlib.Core.Path.{_≡_, sym, _∙_}
+use Rattle.model.specs.Entries.{ownBytes}
 use Rattle.model.specs.Book.{bookOf}
 use Rattle.model.specs.Tree.{Book}
-use Rattle.book.specs.Own.{Owned, ownBytes, ruleAt}
+use Rattle.book.specs.Own.{Owned, ruleAt}
 use Rattle.book.specs.Told.{bookAnswer}
 use Rattle.book.specs.declared.BookAnswer.{BookAnswer}
 

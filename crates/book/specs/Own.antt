@@ -1,8 +1,8 @@
--- A rule by its number, and its own bytes of the book: action through expression.
-use Prim.Native.Nat.{ℕ, _-_, _≤_, _<_}
+-- A rule by its number, and where its own bytes of the book stand.
+use Prim.Native.Nat.{ℕ, _≤_, _<_}
 use mathlib.Core.List.{List}
 use mathlib.Core.Path.{_≡_}
-use lib.ListN.{length, getD, take, drop}
+use lib.ListN.{length, getD}
 use Rattle.model.specs.Tree.{placeOf, Rule, Book, rulesOf}
 use Rattle.model.specs.Tree.Expr.{always}
 use Rattle.model.specs.Tree.Action.{accept}
@@ -14,9 +14,6 @@ noRule = record { number = 0; place = 0; action = accept; match = always 0; next
 
 abbrev pub ruleAt : Book → ℕ → Rule
 ruleAt b i = getD (rulesOf b) i noRule
-
-abbrev pub ownBytes : List ℕ → Rule → List ℕ
-ownBytes s r = take (r .next - r .place) (drop (r .place) s)
 
 -- a part of s
 pub record Part (s : List ℕ) (place end : ℕ) : Type 0 where

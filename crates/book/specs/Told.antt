@@ -1,73 +1,13 @@
--- What the code's answers say of the model's readers.
-use Prim.Native.Nat.{ℕ, zero, suc}
-use mathlib.Core.List.{List}
+-- What the answer to a book says: document 01's refusals 1 to 8, or the book's contents.
+use Prim.Native.Nat.{ℕ, suc}
 use lib.ListN.{replicate}
 use Rattle.model.specs.Limits.{chainsMost, rulesMost}
-use Rattle.model.specs.Reader.{Stand, Read, got, refused, Reader, _>>=_, give, each}
-use Rattle.model.specs.Tree.{Rule, Book, Action, placeOf}
-use Rattle.model.specs.Tree.Action.{call}
-use Rattle.model.specs.Book.{within, calledChain, chain, rulesSoFar, end}
-use Rattle.book.specs.Contents.{actionNumber, targetNumber, contentsOf}
+use Rattle.model.specs.Reader.{Read, got, refused}
+use Rattle.model.specs.Tree.{Book}
+use Rattle.book.specs.Contents.{contentsOf}
 use Rattle.book.specs.declared.Contents.{Contents}
-use Rattle.book.specs.declared.BookRead.the-variants as bookRead
+use Rattle.book.specs.declared.BookRead.the-variants.{Fine, Refused}
 use Rattle.book.specs.declared.BookAnswer.{BookAnswer}
-use Rattle.book.specs.declared.ChainsRead.{ChainsRead}
-use Rattle.book.specs.declared.ChainsRead.the-variants as chainsRead
-use Rattle.book.specs.declared.ChainNumber.{ChainNumber}
-use Rattle.book.specs.declared.RuleSeen.{RuleSeen}
-use Rattle.book.specs.declared.RuleRead.{RuleRead}
-use Rattle.book.specs.declared.RuleRead.the-variants as ruleRead
-use Rattle.book.specs.declared.ActionRead.{ActionRead}
-use Rattle.book.specs.declared.ActionRead.the-variants as actionRead
-
--- what a reading got, if it got something, is so
-abbrev pub Finds : {A : Type 0} → Read A → (A → Type 0) → Type 0
-Finds (got a st) P = P a
-Finds (refused n p) P = Unit {0}
-
-abbrev pub chainNumber : ℕ → ChainNumber
-chainNumber c = record { 0 = c }
-
--- what stands behind action 6
-abbrev pub callIn : ℕ → Reader Action
-callIn chains = do
-  c ← calledChain chains
-  give (call c)
-
-abbrev pub actionTold : Read Action → ActionRead
-actionTold (got a st) = actionRead.Got (actionNumber a) (chainNumber (targetNumber a)) (st .at)
-actionTold (refused n p) = actionRead.Refused n p
-
--- a rule as its reading leaves it
-abbrev pub seenOf : Rule → Stand → RuleSeen
-seenOf r st = record {
-  action = actionNumber (r .action);
-  called = chainNumber (targetNumber (r .action));
-  expression = placeOf (r .match);
-  next = r .next;
-  sources = st .sources;
-}
-
-abbrev pub ruleTold : Read Rule → RuleRead
-ruleTold (got r st) = ruleRead.Got (seenOf r st)
-ruleTold (refused n p) = ruleRead.Refused n p
-
-abbrev pub chainsTold : Read (List (List Rule)) → ChainsRead
-chainsTold (got cs st) = chainsRead.Got (st .at) (st .rules)
-chainsTold (refused n p) = chainsRead.Refused n p
-
--- the book from its chains on, and from its policy on
-abbrev pub behindPolicy : ℕ → ℕ → Reader Book
-behindPolicy n policy = do
-  chains ← each n zero (λ i. chain n)
-  total ← rulesSoFar
-  _ ← end
-  give (record { policy = policy; total = total; chains = chains })
-
-abbrev pub behindChains : ℕ → Reader Book
-behindChains n = do
-  policy ← within 0 1
-  behindPolicy n policy
 
 abbrev pub noContents : Contents
 noContents = record {
@@ -83,10 +23,10 @@ noContents = record {
 }
 
 abbrev pub refusedBook : ℕ → ℕ → BookAnswer
-refusedBook n p = record { read = bookRead.Refused n p; contents = noContents }
+refusedBook n p = record { read = Refused n p; contents = noContents }
 
--- the answer to a book: refusals 1 to 8, or its contents
+-- refusals 1 to 8, or the contents
 unfoldable pub bookAnswer : Read Book → BookAnswer
 unfolding contentsOf
-bookAnswer (got b st) = record { read = bookRead.Fine; contents = contentsOf b }
+bookAnswer (got b st) = record { read = Fine; contents = contentsOf b }
 bookAnswer (refused n p) = refusedBook n p

@@ -7,7 +7,7 @@ ghost use Rattle.model.specs.Limits.{bookBytes, chainsMost};
 ghost use Rattle.model.specs.Reader.{each};
 ghost use Rattle.model.specs.Book.{chain};
 ghost use Rattle.expressions.specs.Told.{stand};
-ghost use Rattle.book.specs.Told.{Finds, chainsTold};
+ghost use Rattle.book.specs.Inner.{Finds, chainsTold};
 ghost use Rattle.book.specs.Held.{Charting};
 use super::ChainsRead;
 use super::RULES;

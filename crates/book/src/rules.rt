@@ -8,7 +8,7 @@ ghost use Rattle.model.specs.Tree.{Rule};
 ghost use Rattle.model.specs.Reader.{each};
 ghost use Rattle.model.specs.Book.{actionIn, rule};
 ghost use Rattle.expressions.specs.Told.{told, stand};
-ghost use Rattle.book.specs.Told.{Finds, actionTold, callIn, ruleTold};
+ghost use Rattle.book.specs.Inner.{Finds, actionTold, callIn, ruleTold};
 ghost use Rattle.book.specs.Held.{Held, Small, Seen};
 use super::ActionRead;
 use super::ChainNumber;

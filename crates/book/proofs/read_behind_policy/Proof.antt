@@ -1,6 +1,6 @@
 -- Paths into the laws of BookSteps.
 use borrow.Author.Needs.{needs}
-use mathlib.Core.Path.{sym, _∙_}
+use mathlib.Core.Path.{_∙_}
 use Rattle.book.proofs.BookSteps.{charting-none, chains-refused, bytes-after, all-read}
 use Rattle.book.proofs.read_behind_policy.Statement.{statement}
 use Rattle.book.proofs.read_behind_policy.Tie as tie
@@ -24,19 +24,19 @@ returns : tie.Need-returns
 returns c =
     let v = c .before .before .before in
     let r = v .before .before in
-    c .refused2 .ensures ∙ bytes-after _ _ _ _ _ _ (sym (v .next .given .1) ∙ r .read-chains .ensures .0) (c .before .if1 .taken)
+    c .refused2 .ensures ∙ bytes-after _ _ _ _ _ (r .read-chains .ensures .0) _ _ (v .next .given .1) (c .before .if1 .taken)
 
 returns-2 : tie.Need-returns-2
 returns-2 c =
     let v = c .before .before in
     let r = v .before .before in
-    c .refused .ensures ∙ chains-refused _ _ _ _ _ _ (sym (v .n .given .1) ∙ r .read-chains .ensures .0)
+    c .refused .ensures ∙ chains-refused _ _ _ _ _ (r .read-chains .ensures .0) _ _ (v .n .given .1)
 
 returns-3 : tie.Need-returns-3
 returns-3 c =
     let v = c .before .before in
     let r = v .before .before in
-    all-read _ _ _ _ _ _ (sym (v .next .given .1) ∙ r .read-chains .ensures .0) (c .if1 .left) _ _ _ _ _ _ (r .read-chains .ensures .1)
+    all-read _ _ _ _ _ (r .read-chains .ensures .0) _ _ (v .next .given .1) (c .if1 .left) _ _ _ _ _ _ (r .read-chains .ensures .1)
 
 pub read-behind-policy-spec : {M : Type 1} → statement M
 read-behind-policy-spec =

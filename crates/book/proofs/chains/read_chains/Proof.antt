@@ -70,7 +70,7 @@ returns-2 c =
     let r = v .before .before in
     let k = r .before .before .before .before .before .before .before in
     let l = k .before .before .before .before in
-    rules-refused _ _ _ _ _ _ _ _ (l .loop .inv) (k .before .before .before .loop-test .taken) _ _ (count-of k) _ _ (sym (v .n2 .given .1) ∙ r .read-rules .ensures .0) _
+    rules-refused _ _ _ _ _ _ _ _ (l .loop .inv) (k .before .before .before .loop-test .taken) _ _ (count-of k) _ (r .read-rules .ensures .0) _ _ (v .n2 .given .1) _
 
 enum-known-after : tie.Need-enum-known-after Inv-loop μ-loop
 enum-known-after c = search needs
@@ -103,7 +103,7 @@ loop-again c =
     let k = r .before .before .before .before .before .before .before in
     let l = k .before .before .before .before in
     let lt = k .before .before .before .loop-test .taken in
-    rules-got _ _ _ _ _ _ _ _ (l .loop .inv) lt _ _ (count-of k) _ _ (sym (v .after .given .1) ∙ r .read-rules .ensures .0) _
+    rules-got _ _ _ _ _ _ _ _ (l .loop .inv) lt _ _ (count-of k) _ (r .read-rules .ensures .0) _ _ (v .after .given .1) _
     (charting-next _ _ _ _ _ _ _ _ _ _ _ _ _ _ _ _ _ _ (l .loop .inv) lt (l .before .before .pre .1) _ _ _ (r .read-rules .ensures .1))
 
 returns-3 : tie.Need-returns-3 Inv-loop μ-loop
