@@ -1,0 +1,15 @@
+-- `verdicts::named` meets its contract. Assumes nothing.
+use Rattle.verdicts.proofs.Small.{accept-is, drop-is}
+use Rattle.verdicts.proofs.named.Statement.{statement}
+use Rattle.verdicts.proofs.named.Tie as tie
+use Rattle.verdicts.proofs.named.Reads as reads
+use Rattle.verdicts.proofs.named.Lts as lts
+
+returns : tie.Need-returns
+returns c = accept-is _ (c .if1 .taken)
+
+returns-2 : tie.Need-returns-2
+returns-2 c = drop-is _ (c .before .pre) (c .if1 .left)
+
+pub named-spec : {M : Type 1} → statement M
+named-spec = tie.close (tie.spec returns returns-2)
