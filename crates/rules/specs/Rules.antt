@@ -3,7 +3,7 @@ use Prim.Native.Nat.{ℕ, _-_}
 use mathlib.Core.List.{List}
 use lib.ListN.{take, drop}
 use Rattle.model.specs.Answer.{Answer, fine, refused, _>>=_}
-use Rattle.model.specs.Tree.{Rule, Book, rulesOf}
+use Rattle.model.specs.Tree.{Book, rulesOf}
 use Rattle.model.specs.Calls.{readable}
 use Rattle.model.specs.Entries.{ruleOf}
 use Rattle.rules.specs.declared.RuleAnswer.{RuleAnswer}

@@ -20,7 +20,7 @@ use Rattle.model.proofs.Placed.{list-placed}
 use Rattle.book.specs.Contents.{contentsOf}
 use Rattle.book.specs.declared.Contents.{Contents}
 use Rattle.listing.specs.Listings as listings
-use Rattle.listing.specs.Listings.{Lists, countsOf}
+use Rattle.listing.specs.Listings.{Lists}
 use Rattle.listing.specs.declared.Listed.{Listed}
 use Rattle.listing.specs.declared.Listed.the-variants as listed
 use Rattle.listing.proofs.Laws.{charted, holds}
@@ -29,7 +29,7 @@ use Rattle.walks.specs.Packets.{packetOf, leavesOf, tactic}
 use Rattle.walks.specs.Walks.{Keeping, HasChains, ChainsSay}
 use Rattle.walks.specs.Lists.{Listing, ListSays}
 use Rattle.walks.proofs.Books.{read-stands, kept-of, keeping-of, listing-of}
-use Rattle.verdicts.specs.Verdicts.{told, Opened, Ready, decided, left, Decides}
+use Rattle.verdicts.specs.Verdicts.{told, Opened, Ready, Decides}
 use Rattle.verdicts.specs.declared.Verdict.{Verdict}
 use Rattle.verdicts.specs.declared.Verdict.the-variants.{Refused}
 use Rattle.verdicts.proofs.Small.{chain-small, list-small}

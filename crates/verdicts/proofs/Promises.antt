@@ -4,7 +4,6 @@ use mathlib.Core.Bool.{Bool, true, false}
 use mathlib.Core.List.{List}
 use mathlib.Core.Path.{_≡_, sym, _∙_, ap}
 use Rattle.model.specs.Answer.{fine}
-use Rattle.model.specs.Verdict.{favouring}
 use Rattle.model.specs.Entries.{chainEntry, listEntry, closureEntry}
 use Rattle.model.proofs.Headline.{entry-as-chains, entry-encloses}
 use Rattle.walks.specs.declared.Packet.{Packet}

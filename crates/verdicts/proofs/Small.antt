@@ -3,7 +3,7 @@ use Prim.Native.Nat.{ℕ, zero, _≤_}
 use native.Mathlib.Omega.{arith}
 use mathlib.Core.Bool.{Bool, true, false}
 use mathlib.Core.List.{List, [], _∷_}
-use mathlib.Core.Path.{_≡_, sym, _∙_, ap, subst}
+use mathlib.Core.Path.{_≡_, sym, ap}
 use lib.ListN.{length}
 use Rattle.model.specs.Answer.{fine, when}
 use Rattle.model.specs.Ternary.{Tri}

@@ -5,7 +5,7 @@ use mathlib.Core.List.{List}
 use mathlib.Core.Path.{_≡_, refl, sym, _∙_, ap}
 use lib.ListN.{length}
 use Rattle.model.specs.Answer.{Answer, fine, refused}
-use Rattle.model.specs.Entries.{chainEntry, listEntry, closureEntry, wordsAfter}
+use Rattle.model.specs.Entries.{chainEntry, listEntry, closureEntry}
 use Rattle.walks.specs.declared.Packet.{Packet}
 use Rattle.walks.specs.Packets.{packetOf, tactic}
 use Rattle.verdicts.specs.Verdicts.{told}

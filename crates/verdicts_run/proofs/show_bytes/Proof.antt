@@ -1,0 +1,59 @@
+-- `verdicts_run::show_bytes` is safe, and ends: each element once. Assumes nothing.
+use Prim.Native.Nat.{_-_, _≤_}
+use lib.ListN.{length}
+use borrow.Author.Needs.{needs}
+use Rattle.verdicts_run.proofs.show_bytes.Statement.{statement}
+use Rattle.verdicts_run.proofs.show_bytes.Tie as tie
+use Rattle.verdicts_run.proofs.show_bytes.Reads as reads
+use Rattle.verdicts_run.proofs.show_bytes.Lts as lts
+use Rattle.io.proofs.write_all.Reads as write-all-reads
+use Rattle.verdicts_run.proofs.show_byte.Reads as show-byte-reads
+
+abbrev Inv-loop : tie.InvT-loop
+Inv-loop part i₀ t3 i = i ≤ length part
+
+abbrev μ-loop : tie.MeasureT-loop
+μ-loop part i₀ t3 i = length part - i
+
+loop-holds : tie.Need-loop-holds Inv-loop μ-loop
+loop-holds c = search needs
+
+shared-slice-read-show-byte : tie.Need-shared-slice-read-show-byte Inv-loop μ-loop
+shared-slice-read-show-byte c = search needs
+
+show-byte-requires : tie.Need-show-byte-requires Inv-loop μ-loop
+show-byte-requires c κs = search needs
+
+add-i : tie.Need-add-i Inv-loop μ-loop
+add-i c = search needs
+
+loop-less : tie.Need-loop-less Inv-loop μ-loop
+loop-less c = search needs
+
+loop-again : tie.Need-loop-again Inv-loop μ-loop
+loop-again c = search needs
+
+slice-aggregate-write-all : tie.Need-slice-aggregate-write-all Inv-loop μ-loop
+slice-aggregate-write-all c = search needs
+
+write-all-requires : tie.Need-write-all-requires Inv-loop μ-loop
+write-all-requires c κs = search needs
+
+returns : tie.Need-returns Inv-loop μ-loop
+returns c = search needs
+
+pub show-bytes-spec : {M : Type 1} → statement M
+show-bytes-spec =
+    tie.close
+    (tie.spec
+    Inv-loop
+    μ-loop
+    loop-holds
+    shared-slice-read-show-byte
+    show-byte-requires
+    add-i
+    loop-less
+    loop-again
+    slice-aggregate-write-all
+    write-all-requires
+    returns)
