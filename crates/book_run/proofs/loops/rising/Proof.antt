@@ -1,0 +1,88 @@
+-- `loops::rising` is safe and ends: what is left to write falls. Assumes nothing.
+use Prim.Native.Nat.{_-_}
+use mathlib.Core.Path.{_≡_}
+use lib.ListN.{length}
+use borrow.Author.Needs.{needs}
+use Rattle.book_run.proofs.loops.rising.Statement.{statement}
+use Rattle.book_run.proofs.loops.rising.Tie as tie
+
+abbrev Inv-loop : tie.InvT-loop
+Inv-loop name last b₀ at₀ c₀ b at c = length b ≡ length b₀
+
+abbrev μ-loop : tie.MeasureT-loop
+μ-loop name last b₀ at₀ c₀ b at c = 63 - c
+
+slice-aggregate-bytes : tie.Need-slice-aggregate-bytes Inv-loop μ-loop
+slice-aggregate-bytes c = search needs
+
+slice-aggregate-bytes-2 : tie.Need-slice-aggregate-bytes-2 Inv-loop μ-loop
+slice-aggregate-bytes-2 c = search needs
+
+bytes-requires : tie.Need-bytes-requires Inv-loop μ-loop
+bytes-requires c κs = search needs
+
+loop-holds : tie.Need-loop-holds Inv-loop μ-loop
+loop-holds c = search needs
+
+slice-aggregate-byte : tie.Need-slice-aggregate-byte Inv-loop μ-loop
+slice-aggregate-byte c = search needs
+
+byte-requires : tie.Need-byte-requires Inv-loop μ-loop
+byte-requires c κs = search needs
+
+slice-aggregate-calls : tie.Need-slice-aggregate-calls Inv-loop μ-loop
+slice-aggregate-calls c = search needs
+
+add-calls : tie.Need-add-calls Inv-loop μ-loop
+add-calls c = search needs
+
+calls-requires : tie.Need-calls-requires Inv-loop μ-loop
+calls-requires c κs = search needs
+
+add-c : tie.Need-add-c Inv-loop μ-loop
+add-c c = search needs
+
+loop-less : tie.Need-loop-less Inv-loop μ-loop
+loop-less c = search needs
+
+loop-again : tie.Need-loop-again Inv-loop μ-loop
+loop-again c = search needs
+
+slice-aggregate-bytes-3 : tie.Need-slice-aggregate-bytes-3 Inv-loop μ-loop
+slice-aggregate-bytes-3 c = search needs
+
+bytes-requires-2 : tie.Need-bytes-requires-2 Inv-loop μ-loop
+bytes-requires-2 c κs = search needs
+
+slice-aggregate-show-part-from : tie.Need-slice-aggregate-show-part-from Inv-loop μ-loop
+slice-aggregate-show-part-from c = search needs
+
+show-part-from-requires : tie.Need-show-part-from-requires Inv-loop μ-loop
+show-part-from-requires c κs = search needs
+
+returns : tie.Need-returns Inv-loop μ-loop
+returns c = search needs
+
+pub rising-spec : {M : Type 1} → statement M
+rising-spec =
+    tie.close
+    (tie.spec
+    Inv-loop
+    μ-loop
+    slice-aggregate-bytes
+    slice-aggregate-bytes-2
+    bytes-requires
+    loop-holds
+    slice-aggregate-byte
+    byte-requires
+    slice-aggregate-calls
+    add-calls
+    calls-requires
+    add-c
+    loop-less
+    loop-again
+    slice-aggregate-bytes-3
+    bytes-requires-2
+    slice-aggregate-show-part-from
+    show-part-from-requires
+    returns)

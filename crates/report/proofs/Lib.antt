@@ -1,0 +1,6 @@
+pub mod Lengths
+pub mod Phases
+pub mod PortLoop
+pub mod Parts
+pub mod Reviewing
+pub mod Answers

@@ -1,0 +1,5 @@
+pub mod States
+pub mod Taken
+pub mod Known
+pub mod Starts
+pub mod Reviews
