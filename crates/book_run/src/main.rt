@@ -6,6 +6,7 @@ mod loops;
 mod put;
 mod rules;
 mod show;
+mod webs;
 mod weights;
 
 fn main() {
@@ -37,5 +38,5 @@ fn main() {
     weights::nested();
     weights::doubled();
     weights::powers();
-    weights::webs();
+    webs::webs();
 }

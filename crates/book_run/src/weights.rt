@@ -4,7 +4,6 @@ use crate::put::bytes;
 use crate::put::calls;
 use crate::put::repeat;
 use crate::show::show_part;
-use crate::show::show_part_from;
 
 // The entry calls chain 1 16 times and has more, chain 1 calls chain 2 31 times, chain 2 has 32 plain rules: without more,
 // 16 * (1 + 31 * (1 + 32)) = 16,384. Chain 3 is as given.
@@ -167,67 +166,4 @@ pub fn powers() {
         b"\x04\x06\x3D\x00\x06\x3D\x00\x06\x3D\x00\x06\x3D\x00",
     );
     power(b"the entry calls a chain of 69904", b"\x01\x06\x3C\x00");
-}
-
-// 16 calls of the chains behind c; of the last where there are no more.
-fn row(b: &mut [u8], at: usize, c: u8) -> usize {
-    let mut next = byte(b, at, 16);
-    let mut called = c;
-    let mut left: usize = 16;
-    while 0 < left {
-        if called < 63 {
-            called = called + 1;
-        }
-        next = calls(b, next, called, 1);
-        left = left - 1;
-    }
-    next
-}
-
-// 64 chains of 16 rules: those of the entry and of the last chain are as given, each other calls 16 chains behind it.
-fn web(name: &[u8], entry: &[u8], last: &[u8]) {
-    let mut b = [0u8; 4096];
-    let mut at = bytes(&mut b, 0, b"\x01\x40\x00\x10");
-    at = repeat(&mut b, at, entry, 16);
-    let mut c: u8 = 1;
-    while c < 63 {
-        at = row(&mut b, at, c);
-        c = c + 1;
-    }
-    at = byte(&mut b, at, 16);
-    at = repeat(&mut b, at, last, 16);
-    show_part_from(name, &b, at, 1022);
-}
-
-pub fn webs() {
-    web(
-        b"64 chains call many, the entry none",
-        b"\x00\x00",
-        b"\x00\x00",
-    );
-    web(
-        b"64 chains call many, the entry the last",
-        b"\x06\x3F\x00",
-        b"\x00\x00",
-    );
-    web(
-        b"64 chains call many, the entry chain 1",
-        b"\x06\x01\x00",
-        b"\x00\x00",
-    );
-    web(
-        b"64 chains call many, the last chain 1",
-        b"\x00\x00",
-        b"\x06\x01\x00",
-    );
-    web(
-        b"64 chains call many, the last chain 40",
-        b"\x00\x00",
-        b"\x06\x28\x00",
-    );
-    web(
-        b"64 chains call many, the entry chain 1, the last itself",
-        b"\x06\x01\x00",
-        b"\x06\x3F\x00",
-    );
 }

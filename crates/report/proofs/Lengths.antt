@@ -2,15 +2,14 @@
 use Prim.Native.Nat.{ℕ, _+_, _≤_, _/_, _%_, _^_}
 use native.Mathlib.Omega.{arith}
 use mathlib.Core.List.{List, _∷_, _++_}
-use mathlib.Core.Path.{_≡_, subst, sym}
 use lib.ListN.{length, length-append}
 use Rattle.model.specs.Text.{bytes}
 use Rattle.model.specs.Review.{Phase, running, certified}
 use Rattle.model.specs.Review as phase
 use Rattle.model.specs.Report.{decimal, dotted, verdictText}
-use Rattle.text.specs.Puts.{decimalMost, dottedMost}
+use Rattle.text.specs.Puts.{dottedMost}
 use Rattle.text.proofs.Appends.{decimal-short}
-use Rattle.report.specs.Lines.{verdictMost, lineMost, countsMost, portText, countsText}
+use Rattle.report.specs.Lines.{verdictMost, lineMost, countsMost, refusalMost, portText, countsText, refusalText}
 
 pub record Short (xs : List ℕ) (k : ℕ) : Type 0 where
   pub within : length xs ≤ k
@@ -41,3 +40,6 @@ port-short n p = and-short (and-short (and-short (short (bytes "port ") 5 (omega
 
 pub counts-short : (n m : ℕ) → Short (countsText n m) countsMost
 counts-short n m = and-short (and-short (and-short (and-short (short (bytes "rules ") 6 (omega arith)) (number n)) (short (bytes " list ") 6 (omega arith))) (number m)) (short (bytes "\n") 1 (omega arith))
+
+pub refusal-short : (n p : ℕ) → Short (refusalText n p) refusalMost
+refusal-short n p = and-short (and-short (and-short (and-short (short (bytes "refused ") 8 (omega arith)) (number n)) (short (bytes " place ") 7 (omega arith))) (number p)) (short (bytes "\n") 1 (omega arith))

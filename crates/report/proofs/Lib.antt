@@ -4,3 +4,5 @@ pub mod PortLoop
 pub mod Parts
 pub mod Reviewing
 pub mod Answers
+pub mod Unique
+pub mod Fits

@@ -1,5 +1,5 @@
 -- The loop over the plan's ports: the lines so far, with those of the ports that are left, are all.
-use Prim.Native.Nat.{ℕ, zero, suc, _+_, _-_, _*_, _≤_, _<_}
+use Prim.Native.Nat.{ℕ, suc, _+_, _-_, _*_, _≤_, _<_}
 use native.Mathlib.Omega.{arith}
 use native.Mathlib.Nat.{sub-zero}
 use native.Mathlib.Numerals.{add-one}
@@ -59,7 +59,7 @@ module _ (s : List ℕ) (c : PlanContents) (w : List ℕ) (at : ℕ) where
         let f = g .front b e in
         let none : c .ports - i ≡ 0 = omega arith in
         let all : f .text ≡ portLines (listOf b) (portsAt c 0 (c .ports)) =
-            sym (append-nil (f .text)) ∙ ap (λ (n : ℕ). f .text ++ portLines (listOf b) (portsAt c i n)) (sym none) ∙ f .rest in
+        sym (append-nil (f .text)) ∙ ap (λ (n : ℕ). f .text ++ portLines (listOf b) (portsAt c i n)) (sym none) ∙ f .rest in
         subst (λ (t : List ℕ). Puts w at t to w′) all (f .puts)
 
     module _ (p : PlanIn c) (lt : i < c .ports) where

@@ -6,7 +6,6 @@ use lib.ListN.{getD}
 use Rattle.model.specs.Limits.{greatest}
 use Rattle.model.specs.Answer.{fine}
 use Rattle.model.specs.Tree.{Book}
-use Rattle.model.specs.Calls.{readable}
 use Rattle.model.specs.Plan.{rangesOf}
 use Rattle.model.specs.Spans.{complement}
 use Rattle.model.specs.Unfolding.{listOf}

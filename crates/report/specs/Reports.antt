@@ -5,7 +5,7 @@ use mathlib.Core.Path.{_≡_}
 use lib.Dec.{leb}
 use lib.ListN.{length, getD, drop}
 use Rattle.model.specs.Limits.{greatest}
-use Rattle.model.specs.Answer.{Answer, fine, refused, _>>=_, when}
+use Rattle.model.specs.Answer.{Answer, fine, _>>=_, when}
 use Rattle.model.specs.Tree.{Book}
 use Rattle.model.specs.Calls.{readable}
 use Rattle.model.specs.Plan.{Port, planOf}
@@ -43,11 +43,11 @@ reportEntry book plan lent = do
   planPart b plan lent
 
 -- the answer: whether the lent text has room
-abbrev pub answerOf : List ℕ → ℕ → Reported
+unfoldable pub answerOf : List ℕ → ℕ → Reported
 answerOf t lent = when (leb (length t) lent) (Bytes (length t)) (Short (length t))
 
 -- the text after it: where it has room the first bytes are the report, and the others as they were
-abbrev pub textAfter : List ℕ → List ℕ → List ℕ
+unfoldable pub textAfter : List ℕ → List ℕ → List ℕ
 textAfter t text = when (leb (length t) (length text)) (t ++ drop (length t) text) text
 
 -- WHAT THE FUNCTIONS GO BY
@@ -90,7 +90,7 @@ pub record PartPut (a : Answer (List ℕ)) (s words words′ w : List ℕ) (at r
 
 abbrev pub ListPut : List ℕ → PlanContents → List ℕ → List ℕ → List ℕ → ℕ → ℕ → List ℕ → Type 0
 ListPut s c words words′ w at r w′ =
-  (b : Book) (bytes : List ℕ) (ports : List Port) → readable s ≡ fine b → planOf bytes ≡ fine ports → c ≡ plans.contentsOf ports → PartPut (listPart b ports (length words)) s words words′ w at r w′
+    (b : Book) (bytes : List ℕ) (ports : List Port) → readable s ≡ fine b → planOf bytes ≡ fine ports → c ≡ plans.contentsOf ports → PartPut (listPart b ports (length words)) s words words′ w at r w′
 
 abbrev pub BodyPut : List ℕ → List ℕ → List ℕ → List ℕ → List ℕ → ℕ → ℕ → List ℕ → Type 0
 BodyPut s p words words′ w at r w′ = (b : Book) → readable s ≡ fine b → PartPut (planPart b p (length words)) s words words′ w at r w′

@@ -7,7 +7,7 @@ use mathlib.Core.Path.{_≡_, refl, sym, _∙_, ap, ap₂, subst}
 use native.Mathlib.Omega.{arith}
 use borrow.Author.Tests.{le-leb, lt-leb}
 use lib.Dec.{eqb}
-use lib.ListN.{length, getD}
+use lib.ListN.{length}
 use Rattle.model.specs.Limits.{spansMost}
 use Rattle.model.specs.Answer.{Answer, refused}
 use Rattle.model.specs.Unfolding.{ListRule}
@@ -21,13 +21,12 @@ use Rattle.checking.specs.declared.Reading.the-variants as reading
 use Rattle.suspects.proofs.Told.{Told}
 use Rattle.suspects.proofs.Unique.{holding-is}
 use Rattle.sweep.proofs.Answers.{nothing-passes, one-passes}
-use Rattle.review.specs.declared.Phase.{Phase}
 use Rattle.review.specs.declared.Phase.the-variants as phase
 use Rattle.review.specs.declared.State.{State}
 use Rattle.review.specs.declared.Stepped.{Stepped}
 use Rattle.review.specs.declared.Taken.{Taken}
 use Rattle.review.specs.declared.Taken.the-variants.{Refused, Left}
-use Rattle.review.specs.States.{phaseOf, stateOf, SteppedBy}
+use Rattle.review.specs.States.{stateOf, next, Moves, SteppedBy}
 use Rattle.review.specs.Taken.{RuleAt, TakenAs, TakesRule}
 
 module _ (s words : List ℕ) (st : State) (told : Told (stateOf st)) (low′ high′ : List ℕ) (t : Taken)
@@ -69,24 +68,18 @@ module _ (s words : List ℕ) (st : State) (told : Told (stateOf st)) (low′ hi
         (λ q. rw (lt-leb (length (leftAfter (st .port) r ss)) spansMost over) (record { answer = refl; state = refl }))
 
     -- on to the next rule
-    abbrev next : ℕ
-    next = st .place + 3 + getD words (st .place + 2) 0
-
-    abbrev moved : Phase → State
-    moved ph = record { phase = ph; place = next; port = st .port; suspects = record { count = m; low = low′; high = high′ } }
-
-    module _ (h : m ≤ spansMost) (ph : Phase) (p : phaseOf ph ≡ phaseAt words next) where
-      state : stateOf (moved ph) ≡ slices.written (st .port) (leftAfter (st .port) r ss) (after r (st .place)) (phaseAt words (after r (st .place)))
+    module _ (h : m ≤ spansMost) (out : Stepped) (moves : Moves words st (record { count = m; low = low′; high = high′ }) out) where
+      state : stateOf (out .state) ≡ slices.written (st .port) (leftAfter (st .port) r ss) (after r (st .place)) (phaseAt words (after r (st .place)))
       state =
-          holding-is (leftAfter (st .port) r ss) (moved ph .suspects) (is .1 .written h) (st .port) next (phaseOf ph)
-          ∙ ap (slices.written (st .port) (leftAfter (st .port) r ss) next) p
+          moves .state
+          ∙ holding-is (leftAfter (st .port) r ss) (record { count = m; low = low′; high = high′ }) (is .1 .written h) (st .port) (next words (st .place)) (phaseAt words (next words (st .place)))
           ∙ ap (λ n. slices.written (st .port) (leftAfter (st .port) r ss) (st .place + 3 + n) (phaseAt words (st .place + 3 + n))) (sym (at .counted))
 
-      pub step-moves : SteppedBy goal st (record { answer = reading.Fine; state = moved ph })
-      step-moves = by-action (record { answer = reading.Fine; state = moved ph })
+      pub step-moves : SteppedBy goal st out
+      step-moves = by-action out
           (λ q. rw (nothing-passes (mayPass (st .port) r ss) (sym (is .0 q))) (record {
-            answer = refl;
+            answer = moves .answer;
             state = state ∙ ap (λ l. slices.written (st .port) l (after r (st .place)) (phaseAt words (after r (st .place)))) (kept q)
                 ∙ sym (holding-is ss (st .suspects) (told .slots) (st .port) (after r (st .place)) (phaseAt words (after r (st .place))));
           }))
-          (λ q. rw (le-leb (length (leftAfter (st .port) r ss)) spansMost (is .1 .written h .fits)) (record { answer = refl; state = state }))
+          (λ q. rw (le-leb (length (leftAfter (st .port) r ss)) spansMost (is .1 .written h .fits)) (record { answer = moves .answer; state = state }))

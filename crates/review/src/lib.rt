@@ -67,11 +67,10 @@ pub fn take_rule(
     requires { ⌜ HasRule (now s) (now words) at × Kept n (now low) (now high) ⌝ }
     ensures { λ r. ⌜ TakesRule (now (s .entry)) (now (words .entry)) at port n (now (low .entry)) (now (high .entry)) r (now (low .exit)) (now (high .exit)) ⌝ }
 {
-    let action = words[at];
     let number = words[at + 1];
     let count = words[at + 2] as usize;
     let from = at + 3;
-    if action == 0 {
+    if words[at] == 0 {
         let found = first_passing(s, words, from, count, port, low, high, n);
         return match found {
             Lowest::At(source) => Taken::Refused(RuleNumber(number), source),

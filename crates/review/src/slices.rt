@@ -2,7 +2,9 @@
 ghost use mathlib.Core.Path.{_≡_};
 ghost use mathlib.Core.Bool.{true};
 ghost use mathlib.Core.Option.{some};
+ghost use Prim.Native.Nat.{_≤_};
 ghost use lib.Dec.{eqb};
+ghost use lib.ListN.{length};
 ghost use Rattle.model.specs.Answer.{fine, when};
 ghost use Rattle.model.specs.Tree.{Book};
 ghost use Rattle.model.specs.Calls.{readable};
@@ -10,7 +12,7 @@ ghost use Rattle.model.specs.Unfolding.{ListRule};
 ghost use Rattle.model.specs.Review.{certified, running};
 ghost use Rattle.model.specs.Slices.{inWriting, takeRule, step as modelStep};
 ghost use Rattle.model.specs.Entries.{stepEntry};
-ghost use Rattle.review.specs.States.{phaseOf, stateOf, SteppedBy};
+ghost use Rattle.review.specs.States.{phaseOf, stateOf, next, Moves, SteppedBy};
 ghost use Rattle.review.specs.Taken.{RuleAt, HasRule};
 ghost use Rattle.review.specs.Known.{ReadFrom};
 use super::Phase;
@@ -33,6 +35,27 @@ fn phase_at(next: usize, end: usize) -> Phase
         return Phase::Certified;
     }
     Phase::Running
+}
+
+// The state behind the rule at its place, with the suspects that the rule leaves.
+fn move_on(list: &[u32], state: State, left: Suspects) -> Stepped
+    requires { ⌜ next (now list) (state .place) ≤ length (now list) ⌝ }
+    ensures { λ r. ⌜ Moves (now (list .entry)) state left r ⌝ }
+{
+    let place = state.place;
+    let conditions = list[place + 2] as usize;
+    let next = place + 3 + conditions;
+    let phase = phase_at(next, list.len());
+    let moved = State {
+        phase: phase,
+        place: next,
+        port: state.port,
+        suspects: left,
+    };
+    Stepped {
+        answer: Reading::Fine,
+        state: moved,
+    }
 }
 
 // A running state, over the rule at its place. A rule that refuses leaves suspects and place as they are.
@@ -66,24 +89,12 @@ fn step_rule(book: &[u8], list: &[u32], state: State) -> Stepped
                     state: state,
                 };
             }
-            let conditions = list[place + 2] as usize;
-            let next = place + 3 + conditions;
-            let phase = phase_at(next, list.len());
             let left = Suspects {
                 count: count,
                 low: low,
                 high: high,
             };
-            let moved = State {
-                phase: phase,
-                place: next,
-                port: port,
-                suspects: left,
-            };
-            Stepped {
-                answer: Reading::Fine,
-                state: moved,
-            }
+            move_on(list, state, left)
         }
     }
 }

@@ -5,16 +5,16 @@ use native.Mathlib.Nat.{add-zero}
 use native.Mathlib.Numerals.{add-one}
 use mathlib.Core.Bool.{Bool, true, false}
 use mathlib.Core.List.{List, [], _∷_, _++_}
-use mathlib.Core.Path.{_≡_, refl, ap, sym, _∙_, subst}
-use lib.ListN.{length, take, drop, set, getD, length-append, take-append-drop}
+use mathlib.Core.Path.{_≡_, ap, sym, _∙_, subst}
+use lib.ListN.{length, take, set, getD, length-append}
 use lib.Dec.{ltb}
 use lib.Seq.{take-suc, take-all}
 use borrow.Author.Tests.{lt-ltb, le-ltb}
 use Rattle.model.specs.Answer.{when}
-use Rattle.model.specs.Report.{digits, decimal, dotted}
+use Rattle.model.specs.Report.{digits, decimal}
 use Rattle.unfolding.specs.Put.{put}
 use Rattle.unfolding.proofs.Puts.{length-put, put-put, put-none, put-snoc}
-use Rattle.text.specs.Puts.{Puts, decimalMost, dottedMost}
+use Rattle.text.specs.Puts.{Puts, decimalMost}
 
 -- as many bytes as before
 pub puts-length : {w : List ℕ} {at : ℕ} {xs : List ℕ} {r : ℕ} {w′ : List ℕ} → Puts w at xs r w′ → length w′ ≡ length w

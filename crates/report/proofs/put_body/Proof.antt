@@ -1,5 +1,5 @@
 -- The plan, or 11; and then the list.
-use mathlib.Core.Path.{refl, sym, _∙_, ap}
+use mathlib.Core.Path.{refl}
 use denote.Ref.{now}
 use Rattle.model.specs.Plan.{planOf}
 use Rattle.plan.proofs.Charted.{answer-fine, answer-refused}
@@ -7,11 +7,6 @@ use Rattle.report.proofs.Parts.{plan-refuses, plan-answers}
 use borrow.Author.Needs.{needs}
 use Rattle.report.proofs.put_body.Statement.{statement}
 use Rattle.report.proofs.put_body.Tie as tie
-use Rattle.report.proofs.put_body.Reads as reads
-use Rattle.report.proofs.put_body.Lts as lts
-use Rattle.plan.proofs.read_plan.Reads as read-plan-reads
-use Rattle.report.proofs.lines.put_refusal.Reads as put-refusal-reads
-use Rattle.report.proofs.put_list.Reads as put-list-reads
 
 read-plan-requires : tie.Need-read-plan-requires
 read-plan-requires c κs = search needs
@@ -26,7 +21,7 @@ enum-told : tie.Need-enum-told
 enum-told c = search needs
 
 put-list-requires : tie.Need-put-list-requires
-put-list-requires c κs = 
+put-list-requires c κs =
     let s = c .before .before .before .before .before .before .before .before .before .before in
     let f = answer-fine (planOf (now (s .args .plan))) _ (c .before .before .before .before .before .read-plan .ensures) (c .before .before .before .enum-told .given .1) in
     (s .pre .0, record { bytes = now (s .args .plan); ports = f .0; read = f .1; contents = f .2 }, s .pre .1)

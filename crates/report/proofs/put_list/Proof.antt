@@ -1,6 +1,5 @@
 -- The list, or 13; and then the counts and the ports.
-use Prim.Native.Nat.{_+_, _*_}
-use native.Mathlib.Omega.{arith}
+use Prim.Native.Nat.{_*_}
 use denote.Ref.{now}
 use Rattle.model.specs.Limits.{portsMost}
 use Rattle.text.proofs.Appends.{room-left}
@@ -10,12 +9,6 @@ use Rattle.report.proofs.Parts.{same-contents, total-told, list-refuses
 use borrow.Author.Needs.{needs}
 use Rattle.report.proofs.put_list.Statement.{statement}
 use Rattle.report.proofs.put_list.Tie as tie
-use Rattle.report.proofs.put_list.Reads as reads
-use Rattle.report.proofs.put_list.Lts as lts
-use Rattle.listing.proofs.list_book.Reads as list-book-reads
-use Rattle.report.proofs.lines.put_counts.Reads as put-counts-reads
-use Rattle.report.proofs.lines.put_refusal.Reads as put-refusal-reads
-use Rattle.report.proofs.put_ports.Reads as put-ports-reads
 
 list-book-requires : tie.Need-list-book-requires
 list-book-requires c κs = search needs
@@ -33,9 +26,8 @@ put-counts-requires : tie.Need-put-counts-requires
 put-counts-requires c κs = search needs
 
 put-ports-requires : tie.Need-put-ports-requires
-put-ports-requires c κs = 
-    let h = c .before .before .before .before .before .before .before .before .before .before .before .before .before .before .before .before .pre .0 in let b = h .book in let e = h .read in
-    (
+put-ports-requires c κs =
+    let h = c .before .before .before .before .before .before .before .before .before .before .before .before .before .before .before .before .pre .0 in let b = h .book in let e = h .read in (
       list-in (now (c .before .before .before .before .before .before .before .before .before .before .before .before .before .before .before .before .args .book)) b (now (c .before .before .before .before .before .before .before .before .before .before .before .before .before .before .before .before .args .words)) _ _ (c .before .before .before .before .before .before .before .before .before .before .before .list-book .ensures (now (c .before .before .before .before .before .before .before .before .before .before .before .before .before .before .before .before .args .book)) b e (same-contents (now (c .before .before .before .before .before .before .before .before .before .before .before .before .before .before .before .before .args .book)) (c .before .before .before .before .before .before .before .before .before .before .before .before .before .before .before .before .args .contents) (c .before .before .before .before .before .before .before .before .before .before .before .before .before .before .before .before .args .ranks) (c .before .before .before .before .before .before .before .before .before .before .before .before .before .before .before .before .pre .0) b e)) _ _ (c .before .before .before .before .before .before .before .listed2 .given .1) e,
       c .before .before .before .before .before .before .before .before .before .before .before .before .before .before .before .before .pre .1,
       room-left countsMost (portsMost * lineMost) (c .before .before .before .before .put-counts .ensures) (counts-short _ _ .within) (c .before .before .before .before .before .before .before .before .before .before .before .before .before .before .before .before .pre .2),

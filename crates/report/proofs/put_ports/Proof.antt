@@ -5,10 +5,6 @@ use denote.Ref.{now}
 use Rattle.report.proofs.PortLoop.{Going, starts, ends, line-room, next, plan-shape}
 use Rattle.report.proofs.put_ports.Statement.{statement}
 use Rattle.report.proofs.put_ports.Tie as tie
-use Rattle.report.proofs.put_ports.Reads as reads
-use Rattle.report.proofs.put_ports.Lts as lts
-use Rattle.report.proofs.lines.put_port.Reads as put-port-reads
-use Rattle.report.proofs.review_port.Reads as review-port-reads
 
 abbrev Inv-loop : tie.InvT-loop
 Inv-loop book words count plan buf₀ at ports number to₀ i₀ buf to i = Going book plan buf₀ at buf to i

@@ -5,10 +5,6 @@ use Rattle.report.proofs.Answers.{as-long, short, handed}
 use borrow.Author.Needs.{needs}
 use Rattle.report.proofs.report.Statement.{statement}
 use Rattle.report.proofs.report.Tie as tie
-use Rattle.report.proofs.report.Reads as reads
-use Rattle.report.proofs.report.Lts as lts
-use Rattle.report.proofs.write_report.Reads as write-report-reads
-use Rattle.text.proofs.put_text.Reads as put-text-reads
 
 slice-aggregate-write-report : tie.Need-slice-aggregate-write-report
 slice-aggregate-write-report c = search needs
@@ -20,7 +16,7 @@ same-length : tie.Need-same-length
 same-length c = search needs
 
 returns : tie.Need-returns
-returns c = 
+returns c =
     let h = short _ _ _ _ (c .before .before .before .before .write-report .ensures .0) (now (c .before .before .before .before .before .before .before .before .before .before .before .args .text)) (c .if1 .taken) in
     (h .0, (h .1, c .before .before .before .before .write-report .ensures .1))
 
@@ -40,7 +36,7 @@ same-length-3 : tie.Need-same-length-3
 same-length-3 c = search needs
 
 returns-2 : tie.Need-returns-2
-returns-2 c = 
+returns-2 c =
     let h = handed _ _ _ _ (c .before .before .before .before .before .before .before .before .before .write-report .ensures .0) (now (c .before .before .before .before .before .before .before .before .before .before .before .before .before .before .before .before .args .text)) (c .before .before .before .before .before .if1 .left) _ _ (c .before .before .put-text .ensures) in
     (h .0, (h .1, c .before .before .before .before .before .before .before .before .before .write-report .ensures .1))
 

@@ -10,12 +10,6 @@ use Rattle.report.proofs.Parts.{refuses, whole, entry-refused, entry-re
 use borrow.Author.Needs.{needs}
 use Rattle.report.proofs.write_report.Statement.{statement}
 use Rattle.report.proofs.write_report.Tie as tie
-use Rattle.report.proofs.write_report.Reads as reads
-use Rattle.report.proofs.write_report.Lts as lts
-use Rattle.checking.proofs.check.Reads as check-reads
-use Rattle.report.proofs.lines.put_refusal.Reads as put-refusal-reads
-use Rattle.report.proofs.put_body.Reads as put-body-reads
-use Rattle.text.proofs.put_text.Reads as put-text-reads
 
 slice-aggregate-put-text : tie.Need-slice-aggregate-put-text
 slice-aggregate-put-text c = search needs
@@ -36,11 +30,10 @@ enum-told : tie.Need-enum-told
 enum-told c = search needs
 
 put-body-requires : tie.Need-put-body-requires
-put-body-requires c κs = 
+put-body-requires c κs =
     let s = c .before .before .before .before .before .before .before .before .before .before .before .before .before .before .before .before in
     let k = c .before .before .before .before .before .before .check in
-    let f = fine-of (readable (now (s .args .book))) (sym (k .ensures .answer) ∙ c .before .before .before .before .enum-told .given .1) in
-    (
+    let f = fine-of (readable (now (s .args .book))) (sym (k .ensures .answer) ∙ c .before .before .before .before .enum-told .given .1) in (
       record { book = f .0; read = f .1; contents = contents-of _ _ (k .ensures) (f .0) (f .1); ranked = k .ensures .ranked (f .0) (f .1) },
       room-left 15 bodyMost (c .before .before .before .before .before .before .before .before .before .put-text .ensures) (omega arith) (omega (arith, s .pre)),
     )
@@ -49,7 +42,7 @@ same-length : tie.Need-same-length
 same-length c = search needs
 
 returns : tie.Need-returns
-returns c = 
+returns c =
     let s = c .before .before .before .before .before .before .before .before .before .before .before .before .before .before .before .before .before in
     let k = c .before .before .before .before .before .before .before .check in
     let e = refused-of (readable (now (s .args .book))) _ _ (sym (k .ensures .answer) ∙ c .before .before .before .before .before .reading .given .1) in
@@ -62,7 +55,7 @@ same-length-3 : tie.Need-same-length-3
 same-length-3 c = search needs
 
 returns-2 : tie.Need-returns-2
-returns-2 c = 
+returns-2 c =
     let s = c .before .before .before .before .before .before .before .before .before .before .before .before .before .before .before .before .before .before .before .before .before in
     let k = c .before .before .before .before .before .before .before .before .before .before .before .check in
     let f = fine-of (readable (now (s .args .book))) (sym (k .ensures .answer) ∙ c .before .before .before .before .before .before .before .before .before .enum-told .given .1) in

@@ -5,12 +5,6 @@ use Rattle.review.proofs.Takes.{take-refuses, take-passes, take-drops}
 use Rattle.review.proofs.take_rule.Statement.{statement}
 use Rattle.review.proofs.take_rule.Tie as tie
 
-mul-action : tie.Need-mul-action
-mul-action c = search needs
-
-shared-slice-read-action : tie.Need-shared-slice-read-action
-shared-slice-read-action c = search needs
-
 add-number : tie.Need-add-number
 add-number c = search needs
 
@@ -34,6 +28,12 @@ cast-count c = search needs
 
 add-from : tie.Need-add-from
 add-from c = search needs
+
+mul-if1 : tie.Need-mul-if1
+mul-if1 c = search needs
+
+shared-slice-read-if1 : tie.Need-shared-slice-read-if1
+shared-slice-read-if1 c = search needs
 
 first-passing-requires : tie.Need-first-passing-requires
 first-passing-requires c κs = search needs
@@ -63,8 +63,6 @@ pub take-rule-spec : {M : Type 1} → statement M
 take-rule-spec =
     tie.close
     (tie.spec
-    mul-action
-    shared-slice-read-action
     add-number
     mul-number
     shared-slice-read-number
@@ -73,6 +71,8 @@ take-rule-spec =
     shared-slice-read-count
     cast-count
     add-from
+    mul-if1
+    shared-slice-read-if1
     first-passing-requires
     enum-known-found
     enum-told

@@ -2,7 +2,7 @@
 use Prim.Native.Nat.{_+_, _≤_, _/_, _%_}
 use native.Mathlib.Omega.{arith}
 use lib.ListN.{length}
-use Rattle.text.proofs.Appends.{then, room-left, decimal-short, puts-length}
+use Rattle.text.proofs.Appends.{then, room-left, decimal-short}
 use borrow.Author.Needs.{needs}
 use Rattle.text.proofs.put_dotted.Statement.{statement}
 use Rattle.text.proofs.put_dotted.Tie as tie

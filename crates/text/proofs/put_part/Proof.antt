@@ -7,9 +7,6 @@ use Rattle.text.proofs.Appends.{nothing, byte, then, puts-length}
 use borrow.Author.Needs.{needs}
 use Rattle.text.proofs.put_part.Statement.{statement}
 use Rattle.text.proofs.put_part.Tie as tie
-use Rattle.text.proofs.put_part.Reads as reads
-use Rattle.text.proofs.put_part.Lts as lts
-use Rattle.text.proofs.put_decimal.Reads as put-decimal-reads
 
 slice-write-buf : tie.Need-slice-write-buf
 slice-write-buf c = search needs

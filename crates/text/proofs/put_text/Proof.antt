@@ -7,8 +7,6 @@ use Rattle.text.specs.Puts.{Puts}
 use Rattle.text.proofs.Appends.{puts-length, text-none, text-next, text-all}
 use Rattle.text.proofs.put_text.Statement.{statement}
 use Rattle.text.proofs.put_text.Tie as tie
-use Rattle.text.proofs.put_text.Reads as reads
-use Rattle.text.proofs.put_text.Lts as lts
 
 abbrev Inv-loop : tie.InvT-loop
 Inv-loop buf₀ at text i₀ buf i = (i ≤ length text) × Puts buf₀ at (take i text) (at + i) buf

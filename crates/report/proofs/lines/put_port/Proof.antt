@@ -21,7 +21,7 @@ after-1 : (c : lts.After-put-text claims reads.Pre reads.Post) → c .put-text .
 after-1 c = room-left 5 86 (c .put-text .ensures) (omega arith) (c .before .before .before .before .pre)
 
 after-2 : (c : lts.After-put-decimal claims reads.Pre reads.Post) → c .put-decimal .result + 76 ≤ length (c .put-decimal .last .0)
-after-2 c = room-left 10 76 (c .put-decimal .ensures) (decimal-short (c .before .before .before .before .before .before .before .before .args .number)) (after-1 (c .before .before .before .before))
+after-2 c = room-left 10 76 (c .put-decimal .ensures) (decimal-short _) (after-1 (c .before .before .before .before))
 
 after-3 : (c : lts.After-put-verdict claims reads.Pre reads.Post) → c .put-verdict .result + 1 ≤ length (c .put-verdict .last .0)
 after-3 c = room-left 75 1 (c .put-verdict .ensures) (verdict-short (phaseOf (c .before .before .before .before .before .before .before .before .before .before .before .before .args .phase))) (after-2 (c .before .before .before .before))

@@ -26,34 +26,16 @@ returns : tie.Need-returns
 returns c = let n = c .before in let k = n .before .before .before in let b = k .before .before .before .before .before .before .before .before in λ r h.
     step-full (now (b .args .book)) (now (b .args .list)) (b .args .state) (here b) _ _ (k .take-rule .result) (k .take-rule .ensures) r h _ (n .before .taken2 .given .1) (c .if1 .taken)
 
-add-conditions : tie.Need-add-conditions
-add-conditions c = search needs
-
-mul-conditions : tie.Need-mul-conditions
-mul-conditions c = search needs
-
-shared-slice-read-conditions : tie.Need-shared-slice-read-conditions
-shared-slice-read-conditions c = search needs
-
-cast-conditions : tie.Need-cast-conditions
-cast-conditions c = search needs
-
-add-next : tie.Need-add-next
-add-next c = search needs
-
-add-next-2 : tie.Need-add-next-2
-add-next-2 c = search needs
-
-phase-at-requires : tie.Need-phase-at-requires
-phase-at-requires c κs = search needs
+move-on-requires : tie.Need-move-on-requires
+move-on-requires c κs = search needs
 
 returns-2 : tie.Need-returns-2
 returns-2 c = let n = c .before in let k = n .before .before in let b = k .before .before .before .before .before .before .before .before in λ r h.
     step-refuses (now (b .args .book)) (now (b .args .list)) (b .args .state) (here b) _ _ (k .take-rule .result) (k .take-rule .ensures) r h _ _ (n .taken .given .1)
 
 returns-3 : tie.Need-returns-3
-returns-3 c = let e = c .before .before in let n = e .before .before in let k = n .before .before in let b = k .before .before .before .before .before .before .before .before in λ r h.
-    step-moves (now (b .args .book)) (now (b .args .list)) (b .args .state) (here b) _ _ (k .take-rule .result) (k .take-rule .ensures) r h _ (n .taken2 .given .1) (e .if1 .left) (c .phase-at .result) (c .phase-at .ensures)
+returns-3 c = let e = c .before in let n = e .before .before in let k = n .before .before in let b = k .before .before .before .before .before .before .before .before in λ r h.
+    step-moves (now (b .args .book)) (now (b .args .list)) (b .args .state) (here b) _ _ (k .take-rule .result) (k .take-rule .ensures) r h _ (n .taken2 .given .1) (e .if1 .left) (c .move-on .result) (c .move-on .ensures)
 
 pub step-rule-spec : {M : Type 1} → statement M
 step-rule-spec =
@@ -63,12 +45,6 @@ step-rule-spec =
     enum-known-taken
     enum-known-taken-2
     returns
-    add-conditions
-    mul-conditions
-    shared-slice-read-conditions
-    cast-conditions
-    add-next
-    add-next-2
-    phase-at-requires
+    move-on-requires
     returns-2
     returns-3)

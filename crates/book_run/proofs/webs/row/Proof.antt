@@ -1,9 +1,9 @@
--- `weights::row` is safe and ends: what is left to write falls. Assumes nothing.
+-- `webs::row` is safe and ends: what is left to write falls. Assumes nothing.
 use mathlib.Core.Path.{_≡_}
 use lib.ListN.{length}
 use borrow.Author.Needs.{needs}
-use Rattle.book_run.proofs.weights.row.Statement.{statement}
-use Rattle.book_run.proofs.weights.row.Tie as tie
+use Rattle.book_run.proofs.webs.row.Statement.{statement}
+use Rattle.book_run.proofs.webs.row.Tie as tie
 
 abbrev Inv-loop : tie.InvT-loop
 Inv-loop b₀ at c next₀ called₀ left₀ b next called left = length b ≡ length b₀

@@ -1,10 +1,10 @@
--- `weights::web` is safe and ends: what is left to write falls. Assumes nothing.
+-- `webs::web` is safe and ends: what is left to write falls. Assumes nothing.
 use Prim.Native.Nat.{_-_}
 use mathlib.Core.Path.{_≡_}
 use lib.ListN.{length}
 use borrow.Author.Needs.{needs}
-use Rattle.book_run.proofs.weights.web.Statement.{statement}
-use Rattle.book_run.proofs.weights.web.Tie as tie
+use Rattle.book_run.proofs.webs.web.Statement.{statement}
+use Rattle.book_run.proofs.webs.web.Tie as tie
 
 abbrev Inv-loop : tie.InvT-loop
 Inv-loop name entry last b₀ at₀ c₀ b at c = length b ≡ length b₀
