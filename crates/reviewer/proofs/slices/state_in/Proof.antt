@@ -1,0 +1,66 @@
+-- `reviewer::slices::state_in` meets its contract, part by part. Assumes nothing.
+use Rattle.reviewer.proofs.States.{state-is}
+use borrow.Author.Needs.{needs}
+use Rattle.reviewer.proofs.slices.state_in.Statement.{statement}
+use Rattle.reviewer.proofs.slices.state_in.Tie as tie
+use Rattle.reviewer.proofs.slices.state_in.Reads as reads
+use Rattle.reviewer.proofs.slices.state_in.Lts as lts
+use Rattle.reviewer.proofs.slices.phase_in.Reads as phase-in-reads
+use Rattle.reviewer.proofs.state.slots.Reads as slots-reads
+
+slots-requires : tie.Need-slots-requires
+slots-requires c κs = search needs
+
+add-slots : tie.Need-add-slots
+add-slots c = search needs
+
+slots-requires-2 : tie.Need-slots-requires-2
+slots-requires-2 c κs = search needs
+
+array-read-phase-in : tie.Need-array-read-phase-in
+array-read-phase-in c = search needs
+
+array-read-phase-in-2 : tie.Need-array-read-phase-in-2
+array-read-phase-in-2 c = search needs
+
+array-read-phase-in-3 : tie.Need-array-read-phase-in-3
+array-read-phase-in-3 c = search needs
+
+phase-in-requires : tie.Need-phase-in-requires
+phase-in-requires c κs = search needs
+
+array-read-t11 : tie.Need-array-read-t11
+array-read-t11 c = search needs
+
+cast-t8 : tie.Need-cast-t8
+cast-t8 c = search needs
+
+array-read-t14 : tie.Need-array-read-t14
+array-read-t14 c = search needs
+
+cast-t8-2 : tie.Need-cast-t8-2
+cast-t8-2 c = search needs
+
+array-read-t11-2 : tie.Need-array-read-t11-2
+array-read-t11-2 c = search needs
+
+returns : tie.Need-returns
+returns c = let p = c .phase-in in let h = c .before .slots2 in let l = c .before .before .slots in state-is (c .before .before .before .args .t1) _ _ _ (l .ensures) (h .ensures) (p .ensures)
+
+pub state-in-spec : {M : Type 1} → statement M
+state-in-spec =
+    tie.close
+    (tie.spec
+    slots-requires
+    add-slots
+    slots-requires-2
+    array-read-phase-in
+    array-read-phase-in-2
+    array-read-phase-in-3
+    phase-in-requires
+    array-read-t11
+    cast-t8
+    array-read-t14
+    cast-t8-2
+    array-read-t11-2
+    returns)
