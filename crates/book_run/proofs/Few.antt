@@ -4,7 +4,6 @@ use mathlib.Core.List.{List}
 use mathlib.Core.Path.{_≡_, sym, _∙_, subst}
 use Rattle.model.specs.Limits.{chainsMost, rulesMost}
 use Rattle.model.specs.Calls.{readable}
-use Rattle.book.specs.Contents.{Shape, contentsOf}
 use Rattle.book.specs.declared.Contents.{Contents}
 use Rattle.checking.specs.Checks.{Checks}
 use Rattle.checking.specs.declared.Checked.{Checked}

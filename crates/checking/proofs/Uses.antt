@@ -2,20 +2,17 @@
 use Prim.Native.Nat.{ℕ}
 use native.Mathlib.Omega.{arith}
 use mathlib.Core.List.{List}
-use mathlib.Core.Path.{_≡_, refl, ap, sym, _∙_, subst}
+use mathlib.Core.Path.{_≡_, refl, ap, sym, _∙_}
 use Rattle.model.specs.Answer.{Answer, fine, refused}
-use Rattle.model.specs.Reader.{got}
 use Rattle.model.specs.Tree.{Book}
 use Rattle.model.specs.Calls.{checked, readable}
 use Rattle.model.proofs.Placed.{readable-read}
 use Rattle.book.specs.Contents.{contentsOf}
 use Rattle.book.specs.Told.{bookAnswer}
-use Rattle.book.specs.declared.Contents.{Contents}
 use Rattle.book.proofs.Charts.{contents-charted}
 use Rattle.calls.specs.Checked.{Passes}
 use Rattle.calls.proofs.Charted.{passes}
 use Rattle.checking.specs.Checks.{refusalOf, Checks}
-use Rattle.checking.specs.declared.Reading.{Reading}
 use Rattle.checking.specs.declared.Reading.the-variants.{Fine, Refused}
 use Rattle.checking.specs.declared.Checked.{Checked}
 use Rattle.checking.proofs.Whole.{ChartedBy}

@@ -1,11 +1,10 @@
 -- What a book's reading says of the book, and the check of its calls on top of it.
-use Prim.Native.Nat.{ℕ, _≤_, _<_}
+use Prim.Native.Nat.{ℕ, _<_}
 use native.Mathlib.Omega.{arith}
 use mathlib.Core.List.{List}
 use mathlib.Core.Path.{_≡_, refl, ap, sym, _∙_, subst}
-use lib.ListN.{length, getD}
-use Rattle.model.specs.Limits.{chainsMost}
-use Rattle.model.specs.Answer.{Answer, fine, refused}
+use lib.ListN.{getD}
+use Rattle.model.specs.Answer.{fine, refused}
 use Rattle.model.specs.Reader as reader
 use Rattle.model.specs.Reader.{Stand, Read, got}
 use Rattle.model.specs.Tree.{Book}

@@ -5,7 +5,6 @@ use mathlib.Core.List.{List}
 use native.Mathlib.Numerals.{add-one, sub-one}
 use native.Mathlib.Omega.{arith}
 use borrow.Author.Tests.{lt-ltb, le-ltb}
-use lib.Dec.{ltb}
 use Rattle.model.specs.Limits.{greatest, sourcesMost, operandsMost, portHighest, protocolHighest, serviceHighest, unreadHighest}
 use Rattle.model.specs.Reader.{Stand, Read, got, refused, after, each}
 use Rattle.model.specs.Number.{numeral, illegible, numberAt, number}

@@ -10,7 +10,7 @@ use Rattle.model.specs.Answer.{Answer, fine, refused}
 use Rattle.model.specs.Tree.{Book}
 use Rattle.model.specs.Calls.{readable}
 use Rattle.model.specs.Unfolding.{listOf, wordsOf}
-use Rattle.model.specs.Entries.{unfoldEntry, wordsAfter, filled}
+use Rattle.model.specs.Entries.{unfoldEntry, wordsAfter}
 use Rattle.book.specs.Contents.{contentsOf}
 use Rattle.book.specs.declared.Contents.{Contents}
 use Rattle.room.specs.declared.Need.{Need}

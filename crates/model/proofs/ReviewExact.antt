@@ -243,6 +243,3 @@ module _ (p : ℕ) where
           accept-can rs l x (h .0) (h .2 .2 .0) (h .2 .2 .1),
           λ y lt m k. h .2 .3 y lt m (can-accept rs l y (h .0) k),
         )
-
-    pub never-running : review p s rs ≢ running
-    never-running e = subst (Says s rs) e (review-says rs s c)

@@ -3,7 +3,7 @@ use Prim.Native.Nat.{ℕ}
 use native.Mathlib.Omega.{arith}
 use mathlib.Core.List.{List}
 use mathlib.Core.Path.{_≡_, ap, sym, _∙_}
-use Rattle.model.specs.Number.{Numeral, numeral, numberAt}
+use Rattle.model.specs.Number.{numeral, numberAt}
 use Rattle.numbers.specs.Told.{told}
 use Rattle.numbers.specs.Field.{fieldAt}
 use Rattle.numbers.specs.declared.NumberRead.{NumberRead}

@@ -1,17 +1,16 @@
 -- Numbers as words, and the answer of the check of a book in words.
 use Prim.Native.Nat.{ℕ, _≤_, _<_}
 use mathlib.Core.List.{List}
-use mathlib.Core.Path.{_≡_, refl, ap, sym, _∙_}
+use mathlib.Core.Path.{_≡_, ap, sym, _∙_}
 use mathlib.Core.Bool.{true, false}
 use lib.Dec.{leb, eqb}
 use borrow.Author.Tests.{le-leb, lt-leb, eq-eqb, ne-eqb}
 use Rattle.model.specs.Limits.{greatest}
-use Rattle.model.specs.Answer.{Answer, fine, refused}
-use Rattle.model.specs.Tree.{Book}
+use Rattle.model.specs.Answer.{Answer}
 use Rattle.model.specs.Calls.{readable}
 use Rattle.model.specs.Entries.{checkEntry, wordsAfter}
 use Rattle.book.specs.Contents.{contentsOf}
-use Rattle.checking.specs.Checks.{refusalOf, Checks}
+use Rattle.checking.specs.Checks.{Checks}
 use Rattle.checking.specs.declared.Reading.the-variants.{Fine, Refused}
 use Rattle.checking.specs.declared.Checked.{Checked}
 use Rattle.checking.proofs.Uses.{fine-of, refused-of, contents-of}

@@ -1,16 +1,15 @@
 -- A STATE'S WORDS HOLD THE STATE, and a call over them is the call over it: so that the slices run through words are the slices. Assumes nothing.
-use Prim.Native.Nat.{ℕ, _+_, _≤_}
+use Prim.Native.Nat.{ℕ, _≤_}
 use native.Mathlib.Omega.{arith}
-use mathlib.Core.List.{List, [], _∷_, _++_}
+use mathlib.Core.List.{List}
 use mathlib.Core.Path.{_≡_, refl, sym}
-use lib.ListN.{length, take, drop}
+use lib.ListN.{length}
 use lib.Seq.{take-all, take-at, drop-at}
 use Rattle.model.specs.Limits.{greatest, spansMost}
 use Rattle.model.specs.Review as phase
 use Rattle.model.specs.Review.{Phase, running, certified}
 use Rattle.model.specs.Slices.{State}
 use Rattle.model.specs.Entries.{stepEntry}
-use Rattle.reviewer.specs.Words.{word}
 use Rattle.reviewer.specs.StateWords.{phaseWord, ruleWord, sourceWord, stateWords, phaseIn, stateIn, stepOver}
 use Rattle.reviewer.proofs.Laws.{fits}
 use Rattle.reviewer.proofs.States.{over}

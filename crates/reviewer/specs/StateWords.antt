@@ -1,6 +1,6 @@
 -- The state of a review in slices as words.
 use Prim.Native.Nat.{ℕ, _+_}
-use mathlib.Core.List.{List, [], _∷_, _++_}
+use mathlib.Core.List.{List, _∷_, _++_}
 use lib.ListN.{getD, take, drop}
 use lib.Dec.{leb, eqb}
 use Rattle.model.specs.Limits.{spansMost}

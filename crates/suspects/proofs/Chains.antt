@@ -9,7 +9,7 @@ use native.Mathlib.Decide.{decLt}
 use lib.ListN.{length}
 use Rattle.model.specs.Spans.{Span, Spans, one, has, Rising}
 use Rattle.model.proofs.SpanMembers.{has-append}
-use Rattle.model.proofs.SpanUnique.{under, over, none-before, has-first, has-rest, rising-unique}
+use Rattle.model.proofs.SpanUnique.{under, none-before, has-first, has-rest, rising-unique}
 use Rattle.suspects.specs.Build.{Chain, Holds}
 
 pub lt-or-le : (a b : ℕ) → (a < b) ⊎ (b ≤ a)

@@ -5,7 +5,6 @@ use mathlib.Core.List.{List}
 use mathlib.Core.Path.{_≡_, refl, sym, _∙_}
 use native.Mathlib.Omega.{arith}
 use Rattle.model.specs.Ternary.{Tri, no, unknown, yes, is-yes, is-no}
-use Rattle.model.specs.Spans.{has}
 use Rattle.matching.specs.declared.Held.{Held}
 use Rattle.matching.specs.Sight.{rank, Sees}
 use Rattle.suspects.specs.Build as build

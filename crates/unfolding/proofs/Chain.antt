@@ -1,15 +1,14 @@
 -- One chain: what its loop relies on, and what each of its rules does.
-use Prim.Native.Nat.{ℕ, zero, suc, _+_, _-_, _*_, _≤_, _<_}
+use Prim.Native.Nat.{ℕ, zero, suc, _+_, _-_, _≤_, _<_}
 use native.Mathlib.Omega.{arith}
-use mathlib.Core.Path.{_≡_, refl, ap, ap₂, sym, subst, _∙_}
+use mathlib.Core.Path.{_≡_, refl, ap, ap₂, sym, _∙_}
 use mathlib.Core.List.{List, [], _∷_, _++_}
 use lib.ListN.{length, getD, take, set, length-set}
 use lib.Seq.{take-take, take-set-le, getD-set-same}
 use Rattle.model.specs.Limits.{bookBytes, rulesMost}
-use Rattle.model.specs.Tree.{Action}
-use Rattle.book.specs.Contents.{actionOf, rulesIn}
+use Rattle.book.specs.Contents.{actionOf}
 use Rattle.unfolding.specs.Put.{put}
-use Rattle.unfolding.specs.Emitted.{ruleWords, after, ownAt, actionAt, chainWords}
+use Rattle.unfolding.specs.Emitted.{ruleWords, after, ownAt, chainWords}
 use Rattle.unfolding.specs.Walking.{ownWords, Ruled, EnterPre, EnterPost, ChainPre, ChainPost}
 use Rattle.unfolding.proofs.Actions.{plain, follows}
 use Rattle.unfolding.proofs.Entered.{take-set}

@@ -1,5 +1,5 @@
 -- A rule that calls nothing, by its action.
-use Prim.Native.Nat.{ℕ, _+_, _*_, _≤_, _<_}
+use Prim.Native.Nat.{ℕ, _+_, _≤_, _<_}
 use native.Mathlib.Omega.{arith}
 use native.Mathlib.Numerals.{add-one}
 use mathlib.Core.Path.{_≡_, refl, ap, sym, _∙_}
@@ -10,7 +10,7 @@ use Rattle.model.specs.Tree.{Action}
 use Rattle.book.specs.Contents.{actionOf}
 use Rattle.unfolding.specs.Put.{put}
 use Rattle.unfolding.specs.Emitted.{entry, ruleWords, after}
-use Rattle.unfolding.specs.Walking.{Writable, ownWords, EnterPre, EnterPost}
+use Rattle.unfolding.specs.Walking.{Writable, EnterPre, EnterPost}
 use Rattle.unfolding.proofs.Puts.{put-none}
 use Rattle.unfolding.proofs.Entries.{entry-length, take-next}
 use Rattle.unfolding.proofs.Actions.{denies, silent, leaves, first-accepts, rest-accepts}

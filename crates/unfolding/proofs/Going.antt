@@ -1,9 +1,9 @@
 -- A chain's rules one after the other: to write the rest now is to write all.
-use Prim.Native.Nat.{ℕ, zero, suc, _+_, _-_, _≤_, _<_}
+use Prim.Native.Nat.{ℕ, suc, _+_, _-_, _≤_, _<_}
 use native.Mathlib.Omega.{arith}
 use mathlib.Core.Path.{_≡_, refl, ap, sym, _∙_}
-use mathlib.Core.List.{List, [], _∷_, _++_}
-use lib.ListN.{length, getD, take, length-append}
+use mathlib.Core.List.{List, [], _++_}
+use lib.ListN.{length, take, length-append}
 use lib.Seq.{take-take}
 use Rattle.unfolding.specs.Put.{put}
 use Rattle.unfolding.specs.Emitted.{ruleWords, after, ownAt, actionAt, rulesWords}

@@ -9,9 +9,8 @@ use lib.ListN.{length, getD}
 use Rattle.model.specs.Tree.{Rule, Book, Action, placeOf}
 use Rattle.model.specs.Tree.Action.{accept, drop, reject, log, empty, return, call}
 use Rattle.model.specs.Calls.{chainOf}
-use Rattle.model.specs.Unfolding as model
-use Rattle.model.specs.Unfolding.{Condition, ListRule, Context, holds, fails, entered, past, unfoldRules, unfoldChain, listOf, conditionWord, conditionWords, wordsOf}
-use Rattle.book.specs.Contents.{actionOf, rulesIn, Shape, Noted, NotedAll, Charted}
+use Rattle.model.specs.Unfolding.{ListRule, Context, holds, fails, entered, past, unfoldRules, unfoldChain, listOf, conditionWord, conditionWords, wordsOf}
+use Rattle.book.specs.Contents.{actionOf, Noted, NotedAll, Charted}
 use Rattle.unfolding.specs.Emitted.{entry, ruleWords, after, ownAt, actionAt, rulesWords, chainWords}
 
 pub words-append : (xs ys : List ListRule) → wordsOf (xs ++ ys) ≡ wordsOf xs ++ wordsOf ys

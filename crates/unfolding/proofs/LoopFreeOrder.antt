@@ -8,11 +8,11 @@ use mathlib.Core.Bool.{Bool, true, false}
 use mathlib.Core.List.{List, [], _∷_}
 use lib.ListN.{length, getD}
 use Rattle.model.specs.Limits.{bookBytes}
-use Rattle.model.specs.Tree.{Rule, Book, Action, placeOf, Every}
+use Rattle.model.specs.Tree.{Rule, Book, placeOf, Every}
 use Rattle.model.specs.Tree.Action.{call}
-use Rattle.model.specs.Calls.{chainOf, reaches, CallIn, here, later, Reach, direct, through, LoopFree}
+use Rattle.model.specs.Calls.{chainOf, reaches, CallIn, here, later, direct, through, LoopFree}
 use Rattle.model.proofs.LoopsExact.{reaches-exactly}
-use Rattle.book.specs.Contents.{actionOf, rulesIn, Noted, NotedAll, Charted}
+use Rattle.book.specs.Contents.{actionOf, rulesIn, NotedAll, Charted}
 use Rattle.unfolding.specs.Walking.{Ordered}
 use Rattle.unfolding.specs.Unfolded.{Near}
 use Rattle.unfolding.proofs.Actions.{follows}

@@ -11,7 +11,7 @@ use borrow.Author.Tests.{leb-true}
 use Rattle.model.specs.Limits.{bookBytes, weightMost}
 use Rattle.model.specs.Answer as answer
 use Rattle.model.specs.Answer.{fine, when}
-use Rattle.model.specs.Reader.{Stand, Read, got, refused}
+use Rattle.model.specs.Reader.{Read, got, refused}
 use Rattle.model.specs.Tree.{Book, Rule, placeOf, Every}
 use Rattle.model.specs.Book.{wholeBook, start, bookOf}
 use Rattle.model.specs.Calls.{readable, checked, lowestLoop, weight}

@@ -1,8 +1,8 @@
 -- The whole list: the entry's chain, and the policy behind it.
-use Prim.Native.Nat.{ℕ, zero, suc, _+_, _≤_, _<_}
+use Prim.Native.Nat.{ℕ, _+_, _≤_}
 use native.Mathlib.Omega.{arith}
-use mathlib.Core.Path.{_≡_, refl, ap, sym, _∙_}
-use mathlib.Core.List.{List, [], _∷_, _++_}
+use mathlib.Core.Path.{_≡_, ap, sym, _∙_}
+use mathlib.Core.List.{List, [], _++_}
 use lib.ListN.{length, take, drop, length-append}
 use Rattle.model.specs.Limits.{rulesMost}
 use Rattle.model.specs.Tree.{Book}
@@ -10,7 +10,7 @@ use Rattle.model.specs.Unfolding.{listOf, wordsOf}
 use Rattle.unfolding.specs.Put.{put}
 use Rattle.unfolding.specs.Emitted.{entry, chainWords}
 use Rattle.unfolding.specs.Walking.{Writable, ChainPre, ChainPost}
-use Rattle.unfolding.specs.Unfolded.{Holds, Unfoldable, Listed, Unfolded}
+use Rattle.unfolding.specs.Unfolded.{Holds, Unfoldable, Unfolded}
 use Rattle.unfolding.proofs.Puts.{put-put, put-front}
 use Rattle.unfolding.proofs.ListWords.{list-words}
 use Rattle.unfolding.proofs.LoopFreeOrder.{from-entry}

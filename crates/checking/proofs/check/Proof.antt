@@ -1,16 +1,9 @@
 -- `checking::check` meets its contract: the book as it was read, and then the check of its calls. Assumes nothing.
 use borrow.Author.Needs.{needs}
-use mathlib.Core.Path.{sym, _∙_, ap}
+use mathlib.Core.Path.{_∙_, ap}
 use Rattle.checking.proofs.Whole.{read-to, refused-checks, shape, actions, judged-as, ranked}
 use Rattle.checking.proofs.check.Statement.{statement}
 use Rattle.checking.proofs.check.Tie as tie
-use Rattle.checking.proofs.check.Reads as reads
-use Rattle.checking.proofs.check.Lts as lts
-use Rattle.book.proofs.read_book.Reads as read-book-reads
-use Rattle.calls.proofs.check_calls.Reads as check-calls-reads
-use Rattle.calls.proofs.ranks.Reads as ranks-reads
-use Rattle.calls.proofs.reached.Reads as reached-reads
-use Rattle.checking.proofs.judged.Reads as judged-reads
 
 read-book-requires : tie.Need-read-book-requires
 read-book-requires c κs = search needs

@@ -2,8 +2,6 @@
 use borrow.Author.Needs.{needs}
 use Rattle.checking.proofs.judged.Statement.{statement}
 use Rattle.checking.proofs.judged.Tie as tie
-use Rattle.checking.proofs.judged.Reads as reads
-use Rattle.checking.proofs.judged.Lts as lts
 
 enum-told : tie.Need-enum-told
 enum-told c = search needs

@@ -4,10 +4,6 @@ use Rattle.checking.proofs.Uses.{readable-passes}
 use Rattle.listing.proofs.Laws.{charted, short, can-unfold, enough, holds}
 use Rattle.listing.proofs.list_book.Statement.{statement}
 use Rattle.listing.proofs.list_book.Tie as tie
-use Rattle.listing.proofs.list_book.Reads as reads
-use Rattle.listing.proofs.list_book.Lts as lts
-use Rattle.room.proofs.room.Reads as room-reads
-use Rattle.unfolding.proofs.unfold.Reads as unfold-reads
 
 room-requires : tie.Need-room-requires
 room-requires c κs = let p = c .before .before .before .before .before .before .pre in charted (p .bytes) (p .book) _ (p .read) (p .contents) .shape

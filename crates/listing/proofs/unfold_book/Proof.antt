@@ -5,10 +5,6 @@ use Rattle.checking.proofs.Uses.{fine-of, refused-of, contents-of}
 use Rattle.listing.proofs.Laws.{entry-refused, entry-answers}
 use Rattle.listing.proofs.unfold_book.Statement.{statement}
 use Rattle.listing.proofs.unfold_book.Tie as tie
-use Rattle.listing.proofs.unfold_book.Reads as reads
-use Rattle.listing.proofs.unfold_book.Lts as lts
-use Rattle.checking.proofs.check.Reads as check-reads
-use Rattle.listing.proofs.list_book.Reads as list-book-reads
 
 check-requires : tie.Need-check-requires
 check-requires c κs = search needs

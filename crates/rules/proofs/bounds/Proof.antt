@@ -3,8 +3,6 @@ use borrow.Author.Needs.{needs}
 use Rattle.rules.proofs.Laws.{bounds-none, bounds-at}
 use Rattle.rules.proofs.bounds.Statement.{statement}
 use Rattle.rules.proofs.bounds.Tie as tie
-use Rattle.rules.proofs.bounds.Reads as reads
-use Rattle.rules.proofs.bounds.Lts as lts
 
 cast-i : tie.Need-cast-i
 cast-i c = search needs

@@ -3,9 +3,6 @@ use borrow.Author.Needs.{needs}
 use Rattle.rules.proofs.Laws.{part-none, part-at, part-inside}
 use Rattle.rules.proofs.rule.Statement.{statement}
 use Rattle.rules.proofs.rule.Tie as tie
-use Rattle.rules.proofs.rule.Reads as reads
-use Rattle.rules.proofs.rule.Lts as lts
-use Rattle.rules.proofs.rule_reading.Reads as rule-reading-reads
 
 rule-reading-requires : tie.Need-rule-reading-requires
 rule-reading-requires c κs = search needs

@@ -6,10 +6,6 @@ use Rattle.rules.specs.declared.RuleAnswer.the-variants.{Refused}
 use Rattle.rules.proofs.Laws.{few, both-say, book-refused, book-fine}
 use Rattle.rules.proofs.rule_reading.Statement.{statement}
 use Rattle.rules.proofs.rule_reading.Tie as tie
-use Rattle.rules.proofs.rule_reading.Reads as reads
-use Rattle.rules.proofs.rule_reading.Lts as lts
-use Rattle.checking.proofs.check.Reads as check-reads
-use Rattle.rules.proofs.bounds.Reads as bounds-reads
 
 check-requires : tie.Need-check-requires
 check-requires c κs = search needs

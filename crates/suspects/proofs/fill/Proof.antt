@@ -6,9 +6,6 @@ use Rattle.model.specs.Limits.{spansMost}
 use Rattle.suspects.proofs.Grow.{fill-none, fill-some}
 use Rattle.suspects.proofs.fill.Statement.{statement}
 use Rattle.suspects.proofs.fill.Tie as tie
-use Rattle.suspects.proofs.fill.Reads as reads
-use Rattle.suspects.proofs.fill.Lts as lts
-use Rattle.suspects.proofs.push.Reads as push-reads
 
 returns : tie.Need-returns
 returns c = let a = c .before .args in record {

@@ -13,10 +13,6 @@ use Rattle.suspects.proofs.Ahead as ahead
 use Rattle.suspects.proofs.Between.{Gapped, gapped-all, gap-next, gap-full, gap-end}
 use Rattle.suspects.proofs.gaps.Statement.{statement}
 use Rattle.suspects.proofs.gaps.Tie as tie
-use Rattle.suspects.proofs.gaps.Reads as reads
-use Rattle.suspects.proofs.gaps.Lts as lts
-use Rattle.suspects.proofs.fill.Reads as fill-reads
-use Rattle.suspects.proofs.wide.Reads as wide-reads
 
 abbrev Inv-loop : tie.InvT-loop
 Inv-loop low high from count lower₀ upper₀ n₀ next₀ at₀ left₀ lower upper n next at left =

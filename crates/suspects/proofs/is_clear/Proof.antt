@@ -9,8 +9,6 @@ use Rattle.model.specs.Slices.{zeros}
 use Rattle.suspects.proofs.InWriting.{zeros-not, zeros-on, zeros-end}
 use Rattle.suspects.proofs.is_clear.Statement.{statement}
 use Rattle.suspects.proofs.is_clear.Tie as tie
-use Rattle.suspects.proofs.is_clear.Reads as reads
-use Rattle.suspects.proofs.is_clear.Lts as lts
 
 abbrev Inv-loop : tie.InvT-loop
 Inv-loop slots n i₀ i = (i ≤ spansMost) × (length slots ≡ spansMost) × (zeros (drop n slots) ≡ zeros (drop i slots))

@@ -9,9 +9,6 @@ use Rattle.model.specs.Slices.{rising}
 use Rattle.suspects.proofs.InWriting.{from, rising-low, rising-back, rising-on, rising-end}
 use Rattle.suspects.proofs.is_rising.Statement.{statement}
 use Rattle.suspects.proofs.is_rising.Tie as tie
-use Rattle.suspects.proofs.is_rising.Reads as reads
-use Rattle.suspects.proofs.is_rising.Lts as lts
-use Rattle.suspects.proofs.wide.Reads as wide-reads
 
 abbrev Inv-loop : tie.InvT-loop
 Inv-loop low high n i₀ least₀ i least = (i ≤ n) × (n ≤ spansMost) × (length low ≡ spansMost) × (length high ≡ spansMost) × (rising 0 (from n low high 0) ≡ rising least (from n low high i))

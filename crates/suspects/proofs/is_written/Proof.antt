@@ -3,10 +3,6 @@ use mathlib.Core.Path.{sym, _∙_}
 use Rattle.suspects.proofs.InWriting.{low-slots, high-slots, too-many, not-rising, not-clear, last-clear}
 use Rattle.suspects.proofs.is_written.Statement.{statement}
 use Rattle.suspects.proofs.is_written.Tie as tie
-use Rattle.suspects.proofs.is_written.Reads as reads
-use Rattle.suspects.proofs.is_written.Lts as lts
-use Rattle.suspects.proofs.is_clear.Reads as is-clear-reads
-use Rattle.suspects.proofs.is_rising.Reads as is-rising-reads
 
 returns : tie.Need-returns
 returns c = λ port place phase. too-many (c .before .args .s) port place phase (c .if1 .taken)

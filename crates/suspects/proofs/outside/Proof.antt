@@ -4,9 +4,6 @@ use Rattle.model.specs.Limits.{spansMost}
 use Rattle.suspects.proofs.Columns.{slots-none}
 use Rattle.suspects.proofs.outside.Statement.{statement}
 use Rattle.suspects.proofs.outside.Tie as tie
-use Rattle.suspects.proofs.outside.Reads as reads
-use Rattle.suspects.proofs.outside.Lts as lts
-use Rattle.suspects.proofs.gaps.Reads as gaps-reads
 
 gaps-requires : tie.Need-gaps-requires
 gaps-requires c κs = (c .before .before .before .before .pre .0, slots-none spansMost)

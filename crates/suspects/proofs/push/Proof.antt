@@ -10,8 +10,6 @@ use Rattle.model.specs.Limits.{spansMost}
 use Rattle.suspects.proofs.Grow.{filled-last, filled-new, push-last, push-new, push-full, grown-held, grown-full}
 use Rattle.suspects.proofs.push.Statement.{statement}
 use Rattle.suspects.proofs.push.Tie as tie
-use Rattle.suspects.proofs.push.Reads as reads
-use Rattle.suspects.proofs.push.Lts as lts
 
 sub-last : tie.Need-sub-last
 sub-last c = search needs

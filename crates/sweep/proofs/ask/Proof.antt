@@ -8,10 +8,6 @@ use Rattle.matching.specs.Sight.{rank}
 use Rattle.matching.proofs.Uses.{asked-values}
 use Rattle.sweep.proofs.ask.Statement.{statement}
 use Rattle.sweep.proofs.ask.Tie as tie
-use Rattle.sweep.proofs.ask.Reads as reads
-use Rattle.sweep.proofs.ask.Lts as lts
-use Rattle.matching.proofs.eval_conditions.Reads as eval-conditions-reads
-use Rattle.sweep.proofs.of_port.Reads as of-port-reads
 
 of-port-requires : tie.Need-of-port-requires
 of-port-requires c κs = search needs

@@ -16,9 +16,6 @@ use Rattle.sweep.specs.Sweep.{Each, stays}
 use Rattle.sweep.proofs.Walk.{dropped, Swept, swept-all, swept-next, swept-full, swept-end}
 use Rattle.sweep.proofs.drop_suspects.Statement.{statement}
 use Rattle.sweep.proofs.drop_suspects.Tie as tie
-use Rattle.sweep.proofs.drop_suspects.Reads as reads
-use Rattle.sweep.proofs.drop_suspects.Lts as lts
-use Rattle.sweep.proofs.keep_range.Reads as keep-range-reads
 
 abbrev Inv-loop : tie.InvT-loop
 Inv-loop s words from count port low high n lower₀ upper₀ m₀ at₀ left₀ lower upper m at left =

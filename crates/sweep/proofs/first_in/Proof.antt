@@ -10,9 +10,6 @@ use Rattle.sweep.specs.Sweep.{Each, valueFor, passes}
 use Rattle.sweep.proofs.Pieces.{stopped, may-pass}
 use Rattle.sweep.proofs.first_in.Statement.{statement}
 use Rattle.sweep.proofs.first_in.Tie as tie
-use Rattle.sweep.proofs.first_in.Reads as reads
-use Rattle.sweep.proofs.first_in.Lts as lts
-use Rattle.sweep.proofs.ask.Reads as ask-reads
 
 abbrev Inv-loop : tie.InvT-loop
 Inv-loop s words from count port low high end x₀ x =

@@ -18,9 +18,6 @@ use Rattle.sweep.specs.Sweep.{Each, passes, LowestIn}
 use Rattle.sweep.proofs.Walk.{passing, Sought, sought-all, sought-found, sought-next, sought-end}
 use Rattle.sweep.proofs.first_passing.Statement.{statement}
 use Rattle.sweep.proofs.first_passing.Tie as tie
-use Rattle.sweep.proofs.first_passing.Reads as reads
-use Rattle.sweep.proofs.first_passing.Lts as lts
-use Rattle.sweep.proofs.first_in.Reads as first-in-reads
 
 abbrev Inv-loop : tie.InvT-loop
 Inv-loop s words from count port low high n at₀ left₀ at left =

@@ -9,11 +9,6 @@ use Rattle.sweep.specs.Sweep.{valueFor}
 use Rattle.sweep.proofs.Pieces.{piece-out, piece-in}
 use Rattle.sweep.proofs.keep_piece.Statement.{statement}
 use Rattle.sweep.proofs.keep_piece.Tie as tie
-use Rattle.sweep.proofs.keep_piece.Reads as reads
-use Rattle.sweep.proofs.keep_piece.Lts as lts
-use Rattle.suspects.proofs.push.Reads as push-reads
-use Rattle.sweep.proofs.ask.Reads as ask-reads
-use Rattle.sweep.proofs.least.Reads as least-reads
 
 ask-requires : tie.Need-ask-requires
 ask-requires c κs = search needs

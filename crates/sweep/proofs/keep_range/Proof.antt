@@ -10,9 +10,6 @@ use Rattle.sweep.specs.Sweep.{Each, stays}
 use Rattle.sweep.proofs.Pieces.{grown-on}
 use Rattle.sweep.proofs.keep_range.Statement.{statement}
 use Rattle.sweep.proofs.keep_range.Tie as tie
-use Rattle.sweep.proofs.keep_range.Reads as reads
-use Rattle.sweep.proofs.keep_range.Lts as lts
-use Rattle.sweep.proofs.keep_piece.Reads as keep-piece-reads
 
 abbrev Inv-loop : tie.InvT-loop
 Inv-loop s words from count port lower₀ upper₀ n low high end m₀ x₀ lower upper m x =

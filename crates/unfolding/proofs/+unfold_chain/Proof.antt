@@ -1,17 +1,15 @@
 -- Each turn of the loop is one rule of the chain, by the laws of Chain; a called chain has less depth.
-use Prim.Native.Nat.{ℕ, _+_, _-_, _*_, _≤_, _<_}
+use Prim.Native.Nat.{ℕ, _+_, _-_, _≤_, _<_}
 use native.Mathlib.Omega.{arith}
-use mathlib.Core.Path.{_≡_}
 use mathlib.Core.Logic.{⊎-elim}
-use lib.ListN.{length, getD, set}
+use lib.ListN.{length, getD}
 use borrow.Fn.Kinds.{In}
 use borrow.Fn.PlainCycle.{Measures, is, falls, and}
 use denote.Ref.{now}
 use Rattle.model.specs.Limits.{bookBytes, rulesMost}
-use Rattle.unfolding.specs.Emitted.{chainWords, ownAt}
-use Rattle.unfolding.specs.Walking.{ChainPre, EnterPre}
+use Rattle.unfolding.specs.Emitted.{chainWords}
 use Rattle.unfolding.proofs.Going.{Going}
-use Rattle.unfolding.proofs.Chain.{Loop, met, starts, ends, loop-start, loop-end, in-rules, slot, near, enter-pre, entered, called-there, call-pre, called}
+use Rattle.unfolding.proofs.Chain.{Loop, met, starts, ends, loop-start, loop-end, slot, near, enter-pre, entered, called-there, call-pre, called}
 use Rattle.unfolding.proofs.unfold_chain.Reads as chain
 use Rattle.unfolding.proofs.unfold_chain.Kinds as chain-kinds
 use Rattle.unfolding.proofs.+unfold_chain.Lts-unfold_chain as lts

@@ -1,8 +1,5 @@
 -- Each arm by its law: a list rule, nothing, or one condition more.
-use Prim.Native.Nat.{_+_}
-use native.Mathlib.Omega.{arith}
 use mathlib.Core.Logic.{⊎-elim}
-use lib.ListN.{length-set}
 use denote.Ref.{now}
 use Rattle.unfolding.proofs.Entered.{Decides, deny-decides, first-decides, rest-decides, writable, wrote, wrote-nothing, returned}
 use borrow.Author.Needs.{needs}

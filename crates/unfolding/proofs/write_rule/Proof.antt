@@ -1,10 +1,9 @@
 -- Behind the head stand the conditions that are copied so far.
-use Prim.Native.Nat.{_+_, _-_}
+use Prim.Native.Nat.{_-_}
 use native.Mathlib.Omega.{arith}
-use mathlib.Core.Path.{_≡_, _∙_}
-use lib.ListN.{length, length-set}
+use lib.ListN.{length-set}
 use denote.Ref.{now}
-use Rattle.unfolding.proofs.Entries.{Copied, headed-length, copied-none, copied-length, copied-next, copied-all}
+use Rattle.unfolding.proofs.Entries.{Copied, copied-none, copied-length, copied-next, copied-all}
 use Rattle.unfolding.proofs.write_rule.Statement.{statement}
 use Rattle.unfolding.proofs.write_rule.Tie as tie
 

@@ -5,8 +5,6 @@ use mathlib.Core.Path.{sym, _∙_}
 use Rattle.verdicts.proofs.Entries.{book-refused, answers-refused, answers-fine}
 use Rattle.verdicts.proofs.answered.Statement.{statement}
 use Rattle.verdicts.proofs.answered.Tie as tie
-use Rattle.verdicts.proofs.answered.Reads as reads
-use Rattle.verdicts.proofs.answered.Lts as lts
 
 enum-known-reading : tie.Need-enum-known-reading
 enum-known-reading c = search needs

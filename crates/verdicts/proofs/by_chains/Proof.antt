@@ -5,10 +5,6 @@ use Rattle.model.specs.Answer.{fine}
 use Rattle.verdicts.proofs.Laws.{can-walk, walked, walked-small}
 use Rattle.verdicts.proofs.by_chains.Statement.{statement}
 use Rattle.verdicts.proofs.by_chains.Tie as tie
-use Rattle.verdicts.proofs.by_chains.Reads as reads
-use Rattle.verdicts.proofs.by_chains.Lts as lts
-use Rattle.verdicts.proofs.named.Reads as named-reads
-use Rattle.walks.proofs.chain_verdict.Reads as chain-verdict-reads
 
 chain-verdict-requires : tie.Need-chain-verdict-requires
 chain-verdict-requires c κs = can-walk (c .before .before .before .before .before .before .before .pre)

@@ -4,11 +4,6 @@ use denote.Ref.{now}
 use Rattle.verdicts.proofs.Laws.{opened-as, can-list, can-judge, judged-small, decides-short, decides-list}
 use Rattle.verdicts.proofs.by_list.Statement.{statement}
 use Rattle.verdicts.proofs.by_list.Tie as tie
-use Rattle.verdicts.proofs.by_list.Reads as reads
-use Rattle.verdicts.proofs.by_list.Lts as lts
-use Rattle.listing.proofs.list_book.Reads as list-book-reads
-use Rattle.verdicts.proofs.named.Reads as named-reads
-use Rattle.walks.proofs.list_verdict.Reads as list-verdict-reads
 
 list-book-requires : tie.Need-list-book-requires
 list-book-requires c κs = can-list (c .before .before .before .before .pre)

@@ -5,11 +5,6 @@ use mathlib.Core.Path.{sym, _∙_}
 use Rattle.verdicts.proofs.Entries.{opened, both, chain-refused, chain-meets}
 use Rattle.verdicts.proofs.chain_verdict.Statement.{statement}
 use Rattle.verdicts.proofs.chain_verdict.Tie as tie
-use Rattle.verdicts.proofs.chain_verdict.Reads as reads
-use Rattle.verdicts.proofs.chain_verdict.Lts as lts
-use Rattle.checking.proofs.check.Reads as check-reads
-use Rattle.verdicts.proofs.answered.Reads as answered-reads
-use Rattle.verdicts.proofs.by_chains.Reads as by-chains-reads
 
 check-requires : tie.Need-check-requires
 check-requires c κs = search needs

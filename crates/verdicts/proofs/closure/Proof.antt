@@ -5,10 +5,6 @@ use Rattle.checking.proofs.Uses.{fine-of, refused-of}
 use Rattle.verdicts.proofs.Entries.{ready, closure-refused, closure-meets}
 use Rattle.verdicts.proofs.closure.Statement.{statement}
 use Rattle.verdicts.proofs.closure.Tie as tie
-use Rattle.verdicts.proofs.closure.Reads as reads
-use Rattle.verdicts.proofs.closure.Lts as lts
-use Rattle.checking.proofs.check.Reads as check-reads
-use Rattle.verdicts.proofs.by_list.Reads as by-list-reads
 
 check-requires : tie.Need-check-requires
 check-requires c κs = search needs

@@ -5,11 +5,6 @@ use mathlib.Core.Path.{sym, _∙_}
 use Rattle.verdicts.proofs.Entries.{ready, both, list-refused, list-meets}
 use Rattle.verdicts.proofs.list_verdict.Statement.{statement}
 use Rattle.verdicts.proofs.list_verdict.Tie as tie
-use Rattle.verdicts.proofs.list_verdict.Reads as reads
-use Rattle.verdicts.proofs.list_verdict.Lts as lts
-use Rattle.checking.proofs.check.Reads as check-reads
-use Rattle.verdicts.proofs.answered.Reads as answered-reads
-use Rattle.verdicts.proofs.by_list.Reads as by-list-reads
 
 check-requires : tie.Need-check-requires
 check-requires c κs = search needs

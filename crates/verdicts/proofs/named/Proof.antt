@@ -2,8 +2,6 @@
 use Rattle.verdicts.proofs.Small.{accept-is, drop-is}
 use Rattle.verdicts.proofs.named.Statement.{statement}
 use Rattle.verdicts.proofs.named.Tie as tie
-use Rattle.verdicts.proofs.named.Reads as reads
-use Rattle.verdicts.proofs.named.Lts as lts
 
 returns : tie.Need-returns
 returns c = accept-is _ (c .if1 .taken)

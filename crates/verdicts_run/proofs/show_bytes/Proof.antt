@@ -4,10 +4,6 @@ use lib.ListN.{length}
 use borrow.Author.Needs.{needs}
 use Rattle.verdicts_run.proofs.show_bytes.Statement.{statement}
 use Rattle.verdicts_run.proofs.show_bytes.Tie as tie
-use Rattle.verdicts_run.proofs.show_bytes.Reads as reads
-use Rattle.verdicts_run.proofs.show_bytes.Lts as lts
-use Rattle.io.proofs.write_all.Reads as write-all-reads
-use Rattle.verdicts_run.proofs.show_byte.Reads as show-byte-reads
 
 abbrev Inv-loop : tie.InvT-loop
 Inv-loop part i₀ t3 i = i ≤ length part

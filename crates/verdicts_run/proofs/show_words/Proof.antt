@@ -4,10 +4,6 @@ use lib.ListN.{length}
 use borrow.Author.Needs.{needs}
 use Rattle.verdicts_run.proofs.show_words.Statement.{statement}
 use Rattle.verdicts_run.proofs.show_words.Tie as tie
-use Rattle.verdicts_run.proofs.show_words.Reads as reads
-use Rattle.verdicts_run.proofs.show_words.Lts as lts
-use Rattle.io.proofs.write_all.Reads as write-all-reads
-use Rattle.verdicts_run.proofs.show_word.Reads as show-word-reads
 
 abbrev Inv-loop : tie.InvT-loop
 Inv-loop words i₀ t3 i = i ≤ length words

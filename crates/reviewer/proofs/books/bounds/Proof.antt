@@ -2,11 +2,6 @@
 use borrow.Author.Needs.{needs}
 use Rattle.reviewer.proofs.books.bounds.Statement.{statement}
 use Rattle.reviewer.proofs.books.bounds.Tie as tie
-use Rattle.reviewer.proofs.books.bounds.Reads as reads
-use Rattle.reviewer.proofs.books.bounds.Lts as lts
-use Rattle.reviewer.proofs.words.given.Reads as given-reads
-use Rattle.reviewer.proofs.words.refusal.Reads as refusal-reads
-use Rattle.reviewer.proofs.words.word.Reads as word-reads
 
 enum-known-rule : tie.Need-enum-known-rule
 enum-known-rule c = search needs

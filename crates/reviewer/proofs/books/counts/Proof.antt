@@ -2,11 +2,6 @@
 use borrow.Author.Needs.{needs}
 use Rattle.reviewer.proofs.books.counts.Statement.{statement}
 use Rattle.reviewer.proofs.books.counts.Tie as tie
-use Rattle.reviewer.proofs.books.counts.Reads as reads
-use Rattle.reviewer.proofs.books.counts.Lts as lts
-use Rattle.reviewer.proofs.words.given.Reads as given-reads
-use Rattle.reviewer.proofs.words.refusal.Reads as refusal-reads
-use Rattle.reviewer.proofs.words.word.Reads as word-reads
 
 enum-known-listed : tie.Need-enum-known-listed
 enum-known-listed c = search needs

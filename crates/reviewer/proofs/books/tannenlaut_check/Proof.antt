@@ -4,12 +4,6 @@ use Rattle.reviewer.proofs.Laws.{check-refused, check-fine}
 use borrow.Author.Needs.{needs}
 use Rattle.reviewer.proofs.books.tannenlaut_check.Statement.{statement}
 use Rattle.reviewer.proofs.books.tannenlaut_check.Tie as tie
-use Rattle.reviewer.proofs.books.tannenlaut_check.Reads as reads
-use Rattle.reviewer.proofs.books.tannenlaut_check.Lts as lts
-use Rattle.checking.proofs.check.Reads as check-reads
-use Rattle.reviewer.proofs.words.given.Reads as given-reads
-use Rattle.reviewer.proofs.words.refusal.Reads as refusal-reads
-use Rattle.reviewer.proofs.words.word.Reads as word-reads
 
 check-requires : tie.Need-check-requires
 check-requires c κs = search needs

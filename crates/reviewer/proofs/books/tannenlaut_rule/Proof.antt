@@ -4,10 +4,6 @@ use Rattle.reviewer.specs.Words.{ruleWords}
 use borrow.Author.Needs.{needs}
 use Rattle.reviewer.proofs.books.tannenlaut_rule.Statement.{statement}
 use Rattle.reviewer.proofs.books.tannenlaut_rule.Tie as tie
-use Rattle.reviewer.proofs.books.tannenlaut_rule.Reads as reads
-use Rattle.reviewer.proofs.books.tannenlaut_rule.Lts as lts
-use Rattle.reviewer.proofs.books.bounds.Reads as bounds-reads
-use Rattle.rules.proofs.rule_reading.Reads as rule-reading-reads
 
 rule-reading-requires : tie.Need-rule-reading-requires
 rule-reading-requires c κs = search needs

@@ -4,10 +4,6 @@ use Rattle.reviewer.specs.Words.{unfoldWords}
 use borrow.Author.Needs.{needs}
 use Rattle.reviewer.proofs.books.tannenlaut_unfold.Statement.{statement}
 use Rattle.reviewer.proofs.books.tannenlaut_unfold.Tie as tie
-use Rattle.reviewer.proofs.books.tannenlaut_unfold.Reads as reads
-use Rattle.reviewer.proofs.books.tannenlaut_unfold.Lts as lts
-use Rattle.listing.proofs.unfold_book.Reads as unfold-book-reads
-use Rattle.reviewer.proofs.books.counts.Reads as counts-reads
 
 unfold-book-requires : tie.Need-unfold-book-requires
 unfold-book-requires c κs = search needs

@@ -7,12 +7,6 @@ use Rattle.reviewer.proofs.Beginnings.{report-written, report-short}
 use borrow.Author.Needs.{needs}
 use Rattle.reviewer.proofs.reporting.tannenlaut_report.Statement.{statement}
 use Rattle.reviewer.proofs.reporting.tannenlaut_report.Tie as tie
-use Rattle.reviewer.proofs.reporting.tannenlaut_report.Reads as reads
-use Rattle.reviewer.proofs.reporting.tannenlaut_report.Lts as lts
-use Rattle.report.proofs.report.Reads as report-reads
-use Rattle.reviewer.proofs.words.given.Reads as given-reads
-use Rattle.reviewer.proofs.words.refusal.Reads as refusal-reads
-use Rattle.reviewer.proofs.words.word.Reads as word-reads
 
 report-requires : tie.Need-report-requires
 report-requires c κs = search needs

@@ -2,10 +2,6 @@
 use borrow.Author.Needs.{needs}
 use Rattle.reviewer.proofs.reviews.review_words.Statement.{statement}
 use Rattle.reviewer.proofs.reviews.review_words.Tie as tie
-use Rattle.reviewer.proofs.reviews.review_words.Reads as reads
-use Rattle.reviewer.proofs.reviews.review_words.Lts as lts
-use Rattle.reviewer.proofs.words.given.Reads as given-reads
-use Rattle.reviewer.proofs.words.refusal.Reads as refusal-reads
 
 enum-known-reviewed : tie.Need-enum-known-reviewed
 enum-known-reviewed c = search needs

@@ -4,10 +4,6 @@ use Rattle.reviewer.specs.StateWords.{reviewWords}
 use borrow.Author.Needs.{needs}
 use Rattle.reviewer.proofs.reviews.tannenlaut_review.Statement.{statement}
 use Rattle.reviewer.proofs.reviews.tannenlaut_review.Tie as tie
-use Rattle.reviewer.proofs.reviews.tannenlaut_review.Reads as reads
-use Rattle.reviewer.proofs.reviews.tannenlaut_review.Lts as lts
-use Rattle.review.proofs.whole.review.Reads as review-reads
-use Rattle.reviewer.proofs.reviews.review_words.Reads as review-words-reads
 
 review-requires : tie.Need-review-requires
 review-requires c κs = search needs

@@ -5,13 +5,6 @@ use Rattle.reviewer.proofs.Beginnings.{start-refused, start-given}
 use borrow.Author.Needs.{needs}
 use Rattle.reviewer.proofs.reviews.tannenlaut_start.Statement.{statement}
 use Rattle.reviewer.proofs.reviews.tannenlaut_start.Tie as tie
-use Rattle.reviewer.proofs.reviews.tannenlaut_start.Reads as reads
-use Rattle.reviewer.proofs.reviews.tannenlaut_start.Lts as lts
-use Rattle.review.proofs.beginning.start.Reads as start-reads
-use Rattle.reviewer.proofs.slices.state_out.Reads as state-out-reads
-use Rattle.reviewer.proofs.words.given.Reads as given-reads
-use Rattle.reviewer.proofs.words.refusal.Reads as refusal-reads
-use Rattle.reviewer.proofs.words.word.Reads as word-reads
 
 start-requires : tie.Need-start-requires
 start-requires c κs = search needs

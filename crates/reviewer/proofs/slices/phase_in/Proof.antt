@@ -2,8 +2,6 @@
 use Rattle.reviewer.proofs.States.{runs, certifies, refuses}
 use Rattle.reviewer.proofs.slices.phase_in.Statement.{statement}
 use Rattle.reviewer.proofs.slices.phase_in.Tie as tie
-use Rattle.reviewer.proofs.slices.phase_in.Reads as reads
-use Rattle.reviewer.proofs.slices.phase_in.Lts as lts
 
 returns : tie.Need-returns
 returns c = runs _ _ _ (c .if1 .taken)

@@ -3,10 +3,6 @@ use Rattle.reviewer.proofs.States.{state-is}
 use borrow.Author.Needs.{needs}
 use Rattle.reviewer.proofs.slices.state_in.Statement.{statement}
 use Rattle.reviewer.proofs.slices.state_in.Tie as tie
-use Rattle.reviewer.proofs.slices.state_in.Reads as reads
-use Rattle.reviewer.proofs.slices.state_in.Lts as lts
-use Rattle.reviewer.proofs.slices.phase_in.Reads as phase-in-reads
-use Rattle.reviewer.proofs.state.slots.Reads as slots-reads
 
 slots-requires : tie.Need-slots-requires
 slots-requires c κs = search needs

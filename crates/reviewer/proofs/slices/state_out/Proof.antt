@@ -5,13 +5,6 @@ use Rattle.reviewer.proofs.States.{words-are}
 use borrow.Author.Needs.{needs}
 use Rattle.reviewer.proofs.slices.state_out.Statement.{statement}
 use Rattle.reviewer.proofs.slices.state_out.Tie as tie
-use Rattle.reviewer.proofs.slices.state_out.Reads as reads
-use Rattle.reviewer.proofs.slices.state_out.Lts as lts
-use Rattle.reviewer.proofs.slices.phase_number.Reads as phase-number-reads
-use Rattle.reviewer.proofs.slices.phase_rule.Reads as phase-rule-reads
-use Rattle.reviewer.proofs.slices.phase_source.Reads as phase-source-reads
-use Rattle.reviewer.proofs.state.state_words.Reads as state-words-reads
-use Rattle.reviewer.proofs.words.word.Reads as word-reads
 
 word-requires : tie.Need-word-requires
 word-requires c κs = search needs

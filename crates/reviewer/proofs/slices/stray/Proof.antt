@@ -4,10 +4,6 @@ use Rattle.reviewer.proofs.States.{stray-refused, stray-fine}
 use borrow.Author.Needs.{needs}
 use Rattle.reviewer.proofs.slices.stray.Statement.{statement}
 use Rattle.reviewer.proofs.slices.stray.Tie as tie
-use Rattle.reviewer.proofs.slices.stray.Reads as reads
-use Rattle.reviewer.proofs.slices.stray.Lts as lts
-use Rattle.checking.proofs.check.Reads as check-reads
-use Rattle.reviewer.proofs.words.refusal.Reads as refusal-reads
 
 check-requires : tie.Need-check-requires
 check-requires c κs = search needs

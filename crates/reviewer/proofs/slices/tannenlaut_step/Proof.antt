@@ -6,15 +6,6 @@ use Rattle.reviewer.proofs.States.{step-stray, step-refused, step-goes,
 use borrow.Author.Needs.{needs}
 use Rattle.reviewer.proofs.slices.tannenlaut_step.Statement.{statement}
 use Rattle.reviewer.proofs.slices.tannenlaut_step.Tie as tie
-use Rattle.reviewer.proofs.slices.tannenlaut_step.Reads as reads
-use Rattle.reviewer.proofs.slices.tannenlaut_step.Lts as lts
-use Rattle.review.proofs.slices.step.Reads as step-reads
-use Rattle.reviewer.proofs.slices.phase_number.Reads as phase-number-reads
-use Rattle.reviewer.proofs.slices.state_in.Reads as state-in-reads
-use Rattle.reviewer.proofs.slices.state_out.Reads as state-out-reads
-use Rattle.reviewer.proofs.slices.stray.Reads as stray-reads
-use Rattle.reviewer.proofs.words.given.Reads as given-reads
-use Rattle.reviewer.proofs.words.refusal.Reads as refusal-reads
 
 array-read-number : tie.Need-array-read-number
 array-read-number c = search needs

@@ -9,8 +9,6 @@ use lib.ListN.{length, take, drop}
 use Rattle.model.specs.Limits.{spansMost}
 use Rattle.reviewer.proofs.state.slots.Statement.{statement}
 use Rattle.reviewer.proofs.state.slots.Tie as tie
-use Rattle.reviewer.proofs.state.slots.Reads as reads
-use Rattle.reviewer.proofs.state.slots.Lts as lts
 
 abbrev Inv-loop : tie.InvT-loop
 Inv-loop from words out₀ i₀ out i = (i ≤ spansMost) × (length out ≡ spansMost) × (take i out ≡ take i (drop from words))

@@ -1,17 +1,14 @@
 -- `reviewer::state::state_words` meets its contract: its three parts fill the words. Assumes nothing.
 use Prim.Native.Nat.{ℕ}
 use native.Mathlib.Omega.{arith}
-use mathlib.Core.Path.{_≡_, ap, sym, _∙_}
-use lib.ListN.{length, replicate, length-replicate}
+use mathlib.Core.Path.{ap, sym, _∙_}
+use lib.ListN.{length-replicate}
 use Rattle.unfolding.specs.Put.{put}
 use Rattle.reviewer.specs.StateWords.{stateSize}
 use Rattle.reviewer.proofs.Slots.{put-parts}
 use borrow.Author.Needs.{needs}
 use Rattle.reviewer.proofs.state.state_words.Statement.{statement}
 use Rattle.reviewer.proofs.state.state_words.Tie as tie
-use Rattle.reviewer.proofs.state.state_words.Reads as reads
-use Rattle.reviewer.proofs.state.state_words.Lts as lts
-use Rattle.reviewer.proofs.state.with_part.Reads as with-part-reads
 
 slice-aggregate-with-part : tie.Need-slice-aggregate-with-part
 slice-aggregate-with-part c = search needs

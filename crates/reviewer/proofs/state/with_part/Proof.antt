@@ -11,8 +11,6 @@ use Rattle.reviewer.specs.StateWords.{stateSize}
 use Rattle.reviewer.proofs.Slots.{put-more}
 use Rattle.reviewer.proofs.state.with_part.Statement.{statement}
 use Rattle.reviewer.proofs.state.with_part.Tie as tie
-use Rattle.reviewer.proofs.state.with_part.Reads as reads
-use Rattle.reviewer.proofs.state.with_part.Lts as lts
 
 abbrev Inv-loop : tie.InvT-loop
 Inv-loop from part out₀ i₀ out i = (i ≤ length part) × (length out ≡ stateSize) × (out ≡ put out₀ from (take i part))

@@ -2,8 +2,6 @@
 use Rattle.reviewer.proofs.Laws.{lower-of, upper-of}
 use Rattle.reviewer.proofs.verdict.is_upper.Statement.{statement}
 use Rattle.reviewer.proofs.verdict.is_upper.Tie as tie
-use Rattle.reviewer.proofs.verdict.is_upper.Reads as reads
-use Rattle.reviewer.proofs.verdict.is_upper.Lts as lts
 
 returns : tie.Need-returns
 returns c = lower-of _ (c .if1 .taken)

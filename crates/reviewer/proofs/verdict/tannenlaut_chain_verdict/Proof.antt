@@ -5,11 +5,6 @@ use Rattle.reviewer.specs.Words.{verdictWords}
 use borrow.Author.Needs.{needs}
 use Rattle.reviewer.proofs.verdict.tannenlaut_chain_verdict.Statement.{statement}
 use Rattle.reviewer.proofs.verdict.tannenlaut_chain_verdict.Tie as tie
-use Rattle.reviewer.proofs.verdict.tannenlaut_chain_verdict.Reads as reads
-use Rattle.reviewer.proofs.verdict.tannenlaut_chain_verdict.Lts as lts
-use Rattle.reviewer.proofs.verdict.packet_in.Reads as packet-in-reads
-use Rattle.reviewer.proofs.verdict.verdict_words.Reads as verdict-words-reads
-use Rattle.verdicts.proofs.chain_verdict.Reads as chain-verdict-reads
 
 packet-in-requires : tie.Need-packet-in-requires
 packet-in-requires c κs = search needs

@@ -7,12 +7,6 @@ use Rattle.reviewer.proofs.Laws.{exported}
 use borrow.Author.Needs.{needs}
 use Rattle.reviewer.proofs.verdict.tannenlaut_closure.Statement.{statement}
 use Rattle.reviewer.proofs.verdict.tannenlaut_closure.Tie as tie
-use Rattle.reviewer.proofs.verdict.tannenlaut_closure.Reads as reads
-use Rattle.reviewer.proofs.verdict.tannenlaut_closure.Lts as lts
-use Rattle.reviewer.proofs.verdict.is_upper.Reads as is-upper-reads
-use Rattle.reviewer.proofs.verdict.packet_in.Reads as packet-in-reads
-use Rattle.reviewer.proofs.verdict.verdict_words.Reads as verdict-words-reads
-use Rattle.verdicts.proofs.closure.Reads as closure-reads
 
 packet-in-requires : tie.Need-packet-in-requires
 packet-in-requires c κs = search needs

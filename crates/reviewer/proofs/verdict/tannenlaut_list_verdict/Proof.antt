@@ -7,11 +7,6 @@ use Rattle.reviewer.proofs.Laws.{exported}
 use borrow.Author.Needs.{needs}
 use Rattle.reviewer.proofs.verdict.tannenlaut_list_verdict.Statement.{statement}
 use Rattle.reviewer.proofs.verdict.tannenlaut_list_verdict.Tie as tie
-use Rattle.reviewer.proofs.verdict.tannenlaut_list_verdict.Reads as reads
-use Rattle.reviewer.proofs.verdict.tannenlaut_list_verdict.Lts as lts
-use Rattle.reviewer.proofs.verdict.packet_in.Reads as packet-in-reads
-use Rattle.reviewer.proofs.verdict.verdict_words.Reads as verdict-words-reads
-use Rattle.verdicts.proofs.list_verdict.Reads as list-verdict-reads
 
 packet-in-requires : tie.Need-packet-in-requires
 packet-in-requires c κs = search needs

@@ -2,10 +2,6 @@
 use borrow.Author.Needs.{needs}
 use Rattle.reviewer.proofs.verdict.verdict_words.Statement.{statement}
 use Rattle.reviewer.proofs.verdict.verdict_words.Tie as tie
-use Rattle.reviewer.proofs.verdict.verdict_words.Reads as reads
-use Rattle.reviewer.proofs.verdict.verdict_words.Lts as lts
-use Rattle.reviewer.proofs.words.given.Reads as given-reads
-use Rattle.reviewer.proofs.words.refusal.Reads as refusal-reads
 
 enum-known-v : tie.Need-enum-known-v
 enum-known-v c = search needs

@@ -3,8 +3,6 @@ use Rattle.reviewer.proofs.Laws.{fits, too-large}
 use borrow.Author.Needs.{needs}
 use Rattle.reviewer.proofs.words.word.Statement.{statement}
 use Rattle.reviewer.proofs.words.word.Tie as tie
-use Rattle.reviewer.proofs.words.word.Reads as reads
-use Rattle.reviewer.proofs.words.word.Lts as lts
 
 cast-result : tie.Need-cast-result
 cast-result c = search needs

@@ -18,11 +18,6 @@ use Rattle.suspects.proofs.InWriting.{low-slots, high-slots}
 use Rattle.suspects.proofs.Told.{Told, told, slots-listed}
 use Rattle.suspects.proofs.Suspects.complement.Statement.{statement}
 use Rattle.suspects.proofs.Suspects.complement.Tie as tie
-use Rattle.suspects.proofs.Suspects.complement.Reads as reads
-use Rattle.suspects.proofs.Suspects.complement.Lts as lts
-use Rattle.suspects.proofs.no_complement.Reads as no-complement-reads
-use Rattle.suspects.proofs.gaps.Reads as gaps-reads
-use Rattle.suspects.proofs.is_written.Reads as is-written-reads
 
 -- the two answers
 fitting : (s : Suspects) → isWritten s ≡ true → length (complement greatest (spansOf s)) ≤ spansMost → true ≡ isWritten s && leb (length (complement greatest (spansOf s))) spansMost
