@@ -37,6 +37,7 @@ either false n = refl
 
 module _ (t : List ℕ) (lent : ℕ) (r : Reported) (h : r ≡ answerOf t lent) where
   told : reportTold r ≡ reportAnswer t lent
+  unfolding answerOf
   told = ap reportTold h ∙ either (leb (length t) lent) (length t)
 
   pub report-written : (n : ℕ) → r ≡ Bytes n → givenWords (word n) 0 0 ≡ reportWords (reportAnswer t lent)
