@@ -267,6 +267,63 @@ fn ends(smallest: &[u8], c7: &[u8]) {
     numbered(c7, 0);
 }
 
+// An entry that calls a chain of 511 accepts of all 32 times: each call weighs 1 and 511, so the entry weighs 16,384. The accepts are zeros.
+fn heaviest() -> [u8; 1124] {
+    let mut b = [0u8; 1124];
+    b[0] = 1;
+    b[1] = 2;
+    b[3] = 32;
+    let mut i: usize = 0;
+    while i < 32 {
+        let at = 4 + 3 * i;
+        b[at] = 6;
+        b[at + 1] = 1;
+        i += 1;
+    }
+    b[100] = 255;
+    b[101] = 3;
+    b
+}
+
+// The word at a place, if there is one.
+fn show_at(words: &[u32], at: usize) {
+    if at < words.len() {
+        show_word(words[at]);
+    }
+}
+
+// The counts, the first word, and the last rule where there is one.
+fn counted(book: &[u8], words: &mut [u32]) {
+    line(b"weight 16384 into ", words.len() as u64);
+    io::write_all(1, b" words:");
+    let listed = listing::unfold_book(book, words);
+    match listed {
+        Listed::Counts(need, rules) => {
+            line(b" needs ", need as u64);
+            line(b" rules ", rules as u64);
+        }
+        Listed::Refused(n, place) => {
+            refused(n, place);
+        }
+    }
+    io::write_all(1, b" first word");
+    show_at(words, 0);
+    io::write_all(1, b" last");
+    show_at(words, 81760);
+    show_at(words, 81761);
+    show_at(words, 81762);
+    io::write_all(1, b"\n");
+}
+
+// 16,352 accepts under two conditions each, and the policy: one word too few, and just enough.
+fn heavy() {
+    let book = heaviest();
+    let mut few = [7u32; 81762];
+    counted(&book, &mut few);
+    let mut enough = [7u32; 81763];
+    counted(&book, &mut enough);
+}
+
 fn main() {
     c1(
         b"\x01\x01\x01\x02\x01\x02\x02\x04\x00\x01\x03\x80\x80\xA0\x85\x0C\xFF\x81\xA0\x85\x0C\x00\x00",
@@ -293,4 +350,5 @@ fn main() {
         b"\x01\x01\x00\x00",
         b"\x01\x04\x01\x01\x06\x01\x00\x01\x06\x02\x00\x01\x06\x03\x00\x01\x06\x02\x00",
     );
+    heavy();
 }
