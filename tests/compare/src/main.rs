@@ -4,6 +4,7 @@
 //! Every answer and all lent memory after every call must agree. It prints how often each answer occurred, and fails if a
 //! refusal of document 01 never did.
 
+use second::meaning::review_by_meaning_within;
 use second::random::{case, Case};
 use second::tally::Tally;
 use second::{Phase, Refusal};
@@ -139,16 +140,30 @@ fn compare_report(seed: u64, case: &Case) {
     assert!(short.iter().all(|&b| b == 7), "a short text of seed {seed}");
 }
 
+/// The review's answer against its meaning: every assignment of answers to the unread places tried, where there are few of them.
+/// Tells whether there were.
+fn compare_meaning(seed: u64, case: &Case) -> bool {
+    let Some(phase) = review_by_meaning_within(&case.book, &case.plan, case.port, 20_000) else { return false };
+    let mut words = vec![0; 16_384];
+    match tannenlaut::review(&case.book, &case.plan, case.port, &mut words) {
+        Ok(told) => assert_eq!(told, phase_words(phase), "the meaning of the review of seed {seed}"),
+        Err(refusal) => assert_eq!(refusal.number, 13, "the review of seed {seed}"),
+    }
+    true
+}
+
 fn main() {
     let mut arguments = std::env::args().skip(1).map(|text| text.parse().expect("a number"));
     let cases: u64 = arguments.next().unwrap_or(100_000);
     let first: u64 = arguments.next().unwrap_or(0);
     let mut tally = Tally::default();
+    let mut meanings = 0;
     for seed in first..first + cases {
         let case = case(seed);
         compare_reading(seed, &case);
         compare_review(seed, &case);
         compare_report(seed, &case);
+        meanings += u64::from(compare_meaning(seed, &case));
         tally.add(&case);
         if (seed + 1 - first) % 10_000 == 0 {
             eprintln!("{} cases agree", seed + 1 - first);
@@ -159,5 +174,6 @@ fn main() {
     }
     let never: Vec<u32> = (1..=17).filter(|n| tally.total(&format!("refusal {n:2}")) == 0).collect();
     assert!(never.is_empty(), "refusals that never occurred: {never:?}");
-    println!("{cases} cases agree");
+    assert!(meanings > 0, "no review was compared with its meaning");
+    println!("{cases} cases agree, {meanings} reviews with their meaning");
 }
