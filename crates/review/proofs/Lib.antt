@@ -10,3 +10,4 @@ pub mod Starting
 pub mod Listing
 pub mod Reviewing
 pub mod Unique
+pub mod Promises
