@@ -324,6 +324,13 @@ fn heavy() {
     counted(&book, &mut enough);
 }
 
+// Three chains within each other, a return ahead of each call and of the innermost accept: each rule has the returns of its own chain
+// before it and of those that lead to it, and none of a chain that was left.
+fn nested(book: &[u8]) {
+    let mut words = [7u32; 25];
+    unfolded(book, &mut words);
+}
+
 fn main() {
     c1(
         b"\x01\x01\x01\x02\x01\x02\x02\x04\x00\x01\x03\x80\x80\xA0\x85\x0C\xFF\x81\xA0\x85\x0C\x00\x00",
@@ -351,4 +358,7 @@ fn main() {
         b"\x01\x04\x01\x01\x06\x01\x00\x01\x06\x02\x00\x01\x06\x03\x00\x01\x06\x02\x00",
     );
     heavy();
+    nested(
+        b"\x01\x03\x01\x03\x05\x08\x00\x06\x01\x08\x01\x00\x00\x03\x05\x08\x02\x06\x02\x08\x03\x01\x08\x04\x02\x05\x08\x05\x00\x08\x06",
+    );
 }
