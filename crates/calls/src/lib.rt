@@ -23,8 +23,11 @@ ghost use Rattle.calls.specs.Checked.{loopOf, answerOf};
 // Document 01's number of the action.
 const CALL: u8 = 6;
 
-// One more than a book's entry may weigh: it stands for every greater weight.
-const HEAVY: u32 = 16385;
+// What a book's entry may weigh, at most.
+pub const WEIGHT: u32 = 16384;
+
+// One more: it stands for every greater weight.
+const HEAVY: u32 = WEIGHT + 1;
 
 // The lowest chain that reaches itself.
 pub enum Loops {
