@@ -27,7 +27,7 @@ const CALL: u8 = 6;
 const HEAD: usize = 3;
 
 // An entry of this weight is the heaviest that passes.
-const WEIGHT: usize = 16384;
+const WEIGHT: usize = calls::WEIGHT as usize;
 
 // So no entry that passes needs more: at most as many rules, each of at most as many conditions. It stands for every greater need,
 // which a chain that the entry does not reach may have.
