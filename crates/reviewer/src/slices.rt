@@ -2,6 +2,8 @@
 ghost use mathlib.Core.Path.{_≡_};
 ghost use Rattle.review.specs.States.{phaseOf, stateOf};
 ghost use Rattle.reviewer.specs.StateWords.{phaseWord, ruleWord, sourceWord, stateWords, stateIn, phaseIn, strayOver, stepOver, stepWords, stateWordsAfter};
+use super::state::HIGHS;
+use super::state::LOWS;
 use super::state::STATE;
 use super::state::slots;
 use super::state::state_words;
@@ -33,8 +35,8 @@ fn phase_in(number: u32, rule: u32, source: u32) -> Phase
 fn state_in(words: [u32; STATE]) -> State
     ensures { λ r. ⌜ stateOf r ≡ stateIn words ⌝ }
 {
-    let low = slots(words, 6);
-    let high = slots(words, 6 + Suspects::MAX);
+    let low = slots(words, LOWS);
+    let high = slots(words, HIGHS);
     let phase = phase_in(words[2], words[3], words[4]);
     let suspects = Suspects {
         count: words[5] as usize,

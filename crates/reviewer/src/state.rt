@@ -8,7 +8,12 @@ ghost use Rattle.unfolding.specs.Put.{put};
 ghost use Rattle.reviewer.specs.StateWords.{stateSize};
 use suspects::Suspects;
 
-pub const STATE: usize = 1286;
+// Where a state's lows and highs stand, behind its port, place, phase, rule, source and count; and all its words.
+pub const LOWS: usize = 6;
+
+pub const HIGHS: usize = LOWS + Suspects::MAX;
+
+pub const STATE: usize = HIGHS + Suspects::MAX;
 
 // So many of the words, from one on.
 pub fn slots(words: [u32; STATE], from: usize) -> [u32; Suspects::MAX]
@@ -40,7 +45,7 @@ fn with_part(words: [u32; STATE], from: usize, part: &[u32]) -> [u32; STATE]
 
 // All words of a state.
 pub fn state_words(
-    head: [u32; 6],
+    head: [u32; LOWS],
     low: [u32; Suspects::MAX],
     high: [u32; Suspects::MAX],
 ) -> [u32; STATE]
@@ -48,6 +53,6 @@ pub fn state_words(
 {
     let none = [0u32; STATE];
     let first = with_part(none, 0, &head);
-    let second = with_part(first, 6, &low);
-    with_part(second, 6 + Suspects::MAX, &high)
+    let second = with_part(first, LOWS, &low);
+    with_part(second, HIGHS, &high)
 }

@@ -22,9 +22,6 @@ slice-aggregate-with-part-2 c = search needs
 with-part-requires-2 : tie.Need-with-part-requires-2
 with-part-requires-2 c κs = search needs
 
-add-with-part : tie.Need-add-with-part
-add-with-part c = search needs
-
 slice-aggregate-with-part-3 : tie.Need-slice-aggregate-with-part-3
 slice-aggregate-with-part-3 c = search needs
 
@@ -50,7 +47,6 @@ state-words-spec =
     with-part-requires
     slice-aggregate-with-part-2
     with-part-requires-2
-    add-with-part
     slice-aggregate-with-part-3
     with-part-requires-3
     returns)
