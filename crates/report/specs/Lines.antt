@@ -32,6 +32,9 @@ refusalMost = 36
 abbrev pub bodyMost : ℕ
 bodyMost = countsMost + portsMost * lineMost
 
+abbrev pub headerBytes : ℕ
+headerBytes = 15
+
 -- room for the header and that
 abbrev pub bufferBytes : ℕ
-bufferBytes = 4096
+bufferBytes = headerBytes + bodyMost

@@ -14,6 +14,7 @@ use checking::Reading;
 use checking::check;
 use listing::Listed;
 use listing::list_book;
+use plan::PORTS;
 use plan::PlanContents;
 use plan::PlanRead;
 use plan::read_plan;
@@ -28,8 +29,15 @@ use lines::put_counts;
 use lines::put_port;
 use lines::put_refusal;
 
-// Room for the longest report.
-const BUFFER: usize = 4096;
+// The bytes of the header, and at most those of the counts and of a port's line.
+const HEADER: usize = 15;
+
+const COUNTS: usize = 33;
+
+const LINE: usize = 91;
+
+// Room for the longest report: the header, the counts, and a line for each port that a plan may have.
+pub const BUFFER: usize = HEADER + COUNTS + PORTS * LINE;
 
 // How many bytes the report has: they were written, or the lent text is too short for them.
 pub enum Reported {

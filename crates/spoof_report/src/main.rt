@@ -10,7 +10,7 @@ const PLAN: usize = 32769;
 const WORDS: usize = 16384;
 
 // Room for any report.
-const TEXT: usize = 4096;
+const TEXT: usize = report::BUFFER;
 
 // A file that is missing or cannot be read to its end counts as empty.
 fn load(path: &[u8], bytes: &mut [u8]) -> usize

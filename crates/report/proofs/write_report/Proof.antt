@@ -5,7 +5,7 @@ use denote.Ref.{now}
 use Rattle.model.specs.Calls.{readable}
 use Rattle.checking.proofs.Uses.{fine-of, refused-of, contents-of}
 use Rattle.text.proofs.Appends.{room-left}
-use Rattle.report.specs.Lines.{bodyMost}
+use Rattle.report.specs.Lines.{bodyMost, headerBytes}
 use Rattle.report.proofs.Parts.{refuses, whole, entry-refused, entry-read}
 use borrow.Author.Needs.{needs}
 use Rattle.report.proofs.write_report.Statement.{statement}
@@ -35,7 +35,7 @@ put-body-requires c κs =
     let k = c .before .before .before .before .before .before .check in
     let f = fine-of (readable (now (s .args .book))) (sym (k .ensures .answer) ∙ c .before .before .before .before .enum-told .given .1) in (
       record { book = f .0; read = f .1; contents = contents-of _ _ (k .ensures) (f .0) (f .1); ranked = k .ensures .ranked (f .0) (f .1) },
-      room-left 15 bodyMost (c .before .before .before .before .before .before .before .before .before .put-text .ensures) (omega arith) (omega (arith, s .pre)),
+      room-left headerBytes bodyMost (c .before .before .before .before .before .before .before .before .before .put-text .ensures) (omega arith) (omega (arith, s .pre)),
     )
 
 same-length : tie.Need-same-length
