@@ -11,6 +11,7 @@ use Rattle.model.proofs.Tests.{tests, cases}
 use lib.ListN.{length, drop, getD, drop-of-length-le}
 use lib.Seq.{drop-cons}
 use lib.Dec.{ltb, leb}
+use Rattle.model.specs.Limits.{greatest}
 use Rattle.model.specs.Answer.{when}
 use Rattle.model.specs.Number.{Writing, whole, cut, long, behind, writing, groups, shortest, Numeral, numeral, illegible, judged, spelt, numberAt}
 
@@ -72,21 +73,21 @@ module _ (s : List ℕ) (at v sc next left : ℕ) (more : 0 < left) where
       rw (one-byte s next left more h, ← e, le-ltb b 128 lo) (steps at v sc next b le lo hi (writing (left - 1) (drop (next + 1) s)))
 
 module _ (at v next b : ℕ) where
-  pub judged-large : (short : Bool) → 4294967295 < v → judged v short next ≡ illegible 3
+  pub judged-large : (short : Bool) → greatest < v → judged v short next ≡ illegible 3
   unfolding judged
-  judged-large short h = rw (lt-leb v 4294967295 h)
+  judged-large short h = rw (lt-leb v greatest h)
 
-  pub judged-zero : b ≡ 0 → at < next → v ≤ 4294967295 → judged v (when (ltb at next) (ltb 0 b) true) (next + 1) ≡ illegible 3
+  pub judged-zero : b ≡ 0 → at < next → v ≤ greatest → judged v (when (ltb at next) (ltb 0 b) true) (next + 1) ≡ illegible 3
   unfolding judged
-  judged-zero e lt h = rw (le-leb v 4294967295 h, lt-ltb at next lt, e)
+  judged-zero e lt h = rw (le-leb v greatest h, lt-ltb at next lt, e)
 
-  pub judged-first : next ≤ at → v ≤ 4294967295 → judged v (when (ltb at next) (ltb 0 b) true) (next + 1) ≡ numeral v (next + 1)
+  pub judged-first : next ≤ at → v ≤ greatest → judged v (when (ltb at next) (ltb 0 b) true) (next + 1) ≡ numeral v (next + 1)
   unfolding judged
-  judged-first le h = rw (le-leb v 4294967295 h, le-ltb at next le)
+  judged-first le h = rw (le-leb v greatest h, le-ltb at next le)
 
-  pub judged-some : (b ≡ 0 → ⊥) → v ≤ 4294967295 → judged v (when (ltb at next) (ltb 0 b) true) (next + 1) ≡ numeral v (next + 1)
+  pub judged-some : (b ≡ 0 → ⊥) → v ≤ greatest → judged v (when (ltb at next) (ltb 0 b) true) (next + 1) ≡ numeral v (next + 1)
   unfolding judged
-  judged-some ne h = rw (le-leb v 4294967295 h, lt-ltb 0 b (omega arith), when-same)
+  judged-some ne h = rw (le-leb v greatest h, lt-ltb 0 b (omega arith), when-same)
 
 pub rest-long : (s : List ℕ) (at v sc next left : ℕ) → left ≤ 0 → rest at v sc next (writing left (drop next s)) ≡ illegible 3
 unfolding rest writing
@@ -123,12 +124,12 @@ legible-on s at v sc next left w n e = cases (λ _. (0 < left) × (next < length
     never : {Z : Type 0} (k : ℕ) → illegible k ≡ numeral w n → Z
     never k z = let q : _≡_ {A = ℕ} 0 1 = cc in absurd (omega arith)
 
-pub legible-last : (v next w n : ℕ) (short : Bool) → judged v short next ≡ numeral w n → (v ≤ 4294967295) × (judged v short next ≡ numeral v next)
+pub legible-last : (v next w n : ℕ) (short : Bool) → judged v short next ≡ numeral w n → (v ≤ greatest) × (judged v short next ≡ numeral v next)
 unfolding judged
-legible-last v next w n short e = go (leb v 4294967295) short refl e
+legible-last v next w n short e = go (leb v greatest) short refl e
   where
-    go : (t u : Bool) → leb v 4294967295 ≡ t → when (t && u) (numeral v next) (illegible 3) ≡ numeral w n
-        → (v ≤ 4294967295) × (when (t && u) (numeral v next) (illegible 3) ≡ numeral v next)
-    go true true a b = (leb-true v 4294967295 a, refl)
+    go : (t u : Bool) → leb v greatest ≡ t → when (t && u) (numeral v next) (illegible 3) ≡ numeral w n
+        → (v ≤ greatest) × (when (t && u) (numeral v next) (illegible 3) ≡ numeral v next)
+    go true true a b = (leb-true v greatest a, refl)
     go true false a b = let q : _≡_ {A = ℕ} 0 1 = cc in absurd (omega arith)
     go false u a b = let q : _≡_ {A = ℕ} 0 1 = cc in absurd (omega arith)
