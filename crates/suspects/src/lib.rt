@@ -13,6 +13,9 @@ ghost use Rattle.suspects.specs.Build.{Filled, Pushes, Fills, Gaps};
 
 const LAST: u32 = 4294967295;
 
+// Behind the last address.
+const END: u64 = LAST as u64 + 1;
+
 pub struct Suspects {
     pub count: usize,
     pub low: [u32; Suspects::MAX],
@@ -227,7 +230,7 @@ fn gaps(
         at = at + 1;
         left = left - 1;
     }
-    fill(lower, upper, n, next, 4294967296)
+    fill(lower, upper, n, next, END)
 }
 
 // The addresses outside a plan's ranges. Those are so few that there is room for what lies between them.
