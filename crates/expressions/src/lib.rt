@@ -4,6 +4,7 @@ ghost use Prim.Native.Nat.{ℕ, suc};
 ghost use Rattle.model.specs.Reader.{each};
 ghost use Rattle.model.specs.Book.{within, expression};
 ghost use Rattle.expressions.specs.Told.{told, stand, twice, Plain};
+use numbers::LARGEST;
 use numbers::NumberRead;
 use numbers::read_field;
 use numbers::read_number;
@@ -30,7 +31,7 @@ const SERVICE: u64 = 65535;
 const UNREAD: u64 = 255;
 
 // An address is any number.
-const ADDRESS: u64 = 4294967295;
+const ADDRESS: u64 = LARGEST;
 
 // An expression's one number.
 fn read_one(s: &[u8], at: usize, high: u64, sources: u32) -> ExpressionRead
