@@ -12,9 +12,9 @@ use Rattle.model.specs.Reader.{Stand, Read, got, refused, each}
 use Rattle.model.specs.Number.{number}
 use Rattle.model.specs.Tree.{placeOf, Rule, Book, Every, allRules, rulesOf}
 use Rattle.model.specs.Book.{within, expression, actionIn, rule, ruleCount, chain, wholeBook, bookOf, end, start}
-use Rattle.model.specs.Standing.{Stands, RuleStands, BookStands}
+use Rattle.model.specs.Standing.{Stands, RuleStands}
 use Rattle.model.proofs.BookRead.{ActionFine}
-use Rattle.model.proofs.EveryRule.{every-append, every-first, every-last, every-as}
+use Rattle.model.proofs.EveryRule.{every-append}
 use Rattle.model.proofs.Standing.{expression-stands}
 use Rattle.model.proofs.Success.{Got, got-after, got-as, got-when, end-got}
 use Rattle.book.proofs.Onward.{Onward, both, each-read, number-moved, within-moved, expression-onward, action-moved}
@@ -159,11 +159,3 @@ whole-known s short =
 pub book-known : (s : List ℕ) (b : Book) (st : Stand) → bookOf s ≡ got b st → KnownBook s b
 unfolding bookOf
 book-known s b st e = subst (λ r. Got r (λ b st′. KnownBook s b)) e (got-when (leb (length s) bookBytes) _ _ _ (λ t. whole-known s (leb-true (length s) bookBytes t)) (λ t. tt))
-
--- of every rule's expression, chain by chain
-pub book-stands : (s : List ℕ) (b : Book) (st : Stand) → bookOf s ≡ got b st → BookStands s b
-book-stands s b st e = go (b .chains) (every-as (KnownRule s (length (b .chains))) (RuleStands s) (λ r k. k .stands) (rulesOf b) (book-known s b st e .rules))
-  where
-    go : (cs : List (List Rule)) → Every (RuleStands s) (allRules cs) → Every (Every (RuleStands s)) cs
-    go [] h = tt
-    go (c ∷ cs) h = (every-first (RuleStands s) c (allRules cs) h, go cs (every-last (RuleStands s) c (allRules cs) h))

@@ -1,10 +1,10 @@
 -- Lists with slots that are not used: what is read out of them, and one more slot used.
-use Prim.Native.Nat.{ℕ, zero, suc, _-_, _≤_, _<_}
+use Prim.Native.Nat.{ℕ, zero, suc, _-_, _<_}
 use mathlib.Core.List.{List, [], _∷_, _++_, append-assoc}
 use mathlib.Core.Path.{_≡_, refl, sym, ap, _∙_}
 use native.Mathlib.Nat.{sub-zero}
 use native.Mathlib.Omega.{arith}
-use lib.ListN.{length, getD, set, replicate, length-append, length-replicate}
+use lib.ListN.{length, getD, set, replicate, length-append}
 use lib.Seq.{set-append-seam}
 use Rattle.book.specs.Contents.{padded}
 
@@ -20,9 +20,6 @@ then-zeros (x ∷ xs) n (suc i) = then-zeros xs n i
 
 pub padded-at : (n : ℕ) (xs : List ℕ) (i : ℕ) → getD (padded n xs) i 0 ≡ getD xs i 0
 padded-at n xs i = then-zeros xs (n - length xs) i
-
-pub padded-length : (n : ℕ) (xs : List ℕ) → length xs ≤ n → length (padded n xs) ≡ n
-padded-length n xs h = omega (arith, length-append xs (replicate (n - length xs) 0), length-replicate {A = ℕ} (n - length xs) 0)
 
 -- the next slot is used
 pub padded-set : (n : ℕ) (xs : List ℕ) (v : ℕ) → length xs < n → set (padded n xs) (length xs) v ≡ padded n (xs ++ v ∷ [])

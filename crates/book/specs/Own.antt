@@ -15,11 +15,6 @@ noRule = record { number = 0; place = 0; action = accept; match = always 0; next
 abbrev pub ruleAt : Book → ℕ → Rule
 ruleAt b i = getD (rulesOf b) i noRule
 
--- a part of s
-pub record Part (s : List ℕ) (place end : ℕ) : Type 0 where
-  pub rising : place ≤ end
-  pub inside : end ≤ length s
-
 -- rule i of b starts and ends at these places of s, its expression starts at the middle one and stands up to the end
 pub record Owned (s : List ℕ) (b : Book) (i place expression end : ℕ) : Type 0 where
   pub number : ruleAt b i .number ≡ i

@@ -1,15 +1,12 @@
 // Reads a book: the whole grammar of document 01, refusals 1 to 8.
 ghost use mathlib.Core.Path.{_≡_};
-ghost use Prim.Native.Nat.{ℕ, _<_, _≤_};
-ghost use lib.ListN.{length, getD};
-ghost use Rattle.model.specs.Limits.{bookBytes, chainsMost, rulesMost};
-ghost use Rattle.model.specs.Tree.{Book};
-ghost use Rattle.model.specs.Entries.{ownBytes};
+ghost use Prim.Native.Nat.{_≤_};
+ghost use lib.ListN.{length};
+ghost use Rattle.model.specs.Limits.{bookBytes, chainsMost};
 ghost use Rattle.model.specs.Book.{bookOf};
 ghost use Rattle.expressions.specs.Told.{stand};
 ghost use Rattle.book.specs.Told.{refusedBook, bookAnswer};
 ghost use Rattle.book.specs.Inner.{behindPolicy, behindChains};
-ghost use Rattle.book.specs.Own.{Part, Owned, ruleAt};
 use chains::read_chains;
 use numbers::NumberRead;
 use numbers::read_field;
@@ -173,20 +170,4 @@ pub fn read_book(s: &[u8]) -> BookAnswer
             NumberRead::Got(chains, next) => read_behind_chains(s, next, chains),
         },
     }
-}
-
-// The own bytes of a rule of a book that was read, action through expression: a part of the lent book.
-pub fn rule_part<'a, 'b>(
-    book: &'a [u8],
-    place: &'b [u32; RULES],
-    end: &'b [u32; RULES],
-    rule: RuleNumber,
-) -> &'a [u8]
-    requires { ⌜ (rule .0 < rulesMost) × Part (now book) (getD (now place) (rule .0) 0) (getD (now end) (rule .0) 0) ⌝ }
-    ensures { λ r. ⌜ ((b : Book) (expression : ℕ) → Owned (now (book .entry)) b (rule .0) (getD (now (place .entry)) (rule .0) 0) expression (getD (now (end .entry)) (rule .0) 0) → now r ≡ ownBytes (now (book .entry)) (ruleAt b (rule .0))) ⌝ }
-{
-    let i = rule.0 as usize;
-    let from = place[i] as usize;
-    let to = end[i] as usize;
-    &book[from..to]
 }
