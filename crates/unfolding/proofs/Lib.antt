@@ -10,4 +10,3 @@ pub mod LoopFreeOrder
 pub mod Whole
 pub mod Readable
 pub mod Unique
-pub mod Uses
