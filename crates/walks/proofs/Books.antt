@@ -30,7 +30,7 @@ module _ (s : List ℕ) (b : Book) (stands : BookStands s b) where
     keeping-of = record { book = b; kept = kept-of; so = c .count }
 
   -- its list, in the first of the lent words
-  pub lists-of : (others : List ℕ) → Lists s (wordsOf (listOf b) ++ others) (length (wordsOf (listOf b))) (listOf b)
+  lists-of : (others : List ℕ) → Lists s (wordsOf (listOf b) ++ others) (length (wordsOf (listOf b))) (listOf b)
   lists-of others = record { others = others; are = refl; counted = refl; placed = list-placed s b stands }
 
   pub listing-of : (others : List ℕ) → Listing s (wordsOf (listOf b) ++ others) (length (wordsOf (listOf b)))

@@ -4,4 +4,3 @@ pub mod Walks
 pub mod Lists
 pub mod Books
 pub mod OneAnswer
-pub mod Entries
