@@ -11,6 +11,7 @@ use Rattle.model.specs.Number.{numeral, illegible}
 use Rattle.model.specs.Tree.{Rule, Book}
 use Rattle.model.specs.Book.{within, chain, end, wholeBook, bookOf, start}
 use Rattle.model.proofs.Success as success
+use Rattle.model.proofs.Filling.{padded-none, padded-zero}
 use Rattle.numbers.specs.Field.{fieldAt}
 use Rattle.expressions.specs.Told.{stand}
 use Rattle.expressions.proofs.Fields.{field-got, field-refused}
@@ -22,7 +23,6 @@ use Rattle.book.specs.declared.ChainsRead.{ChainsRead}
 use Rattle.book.specs.declared.ChainsRead.the-variants.{Got, Refused}
 use Rattle.book.specs.declared.BookRead.the-variants as bookRead
 use Rattle.book.specs.declared.BookAnswer.{BookAnswer}
-use Rattle.book.proofs.Padding.{padded-none, padded-zero}
 use Rattle.book.proofs.Onward.{Moved, within-moved}
 use Rattle.book.proofs.Afterwards.{after-got, after-refused, each-sized}
 

@@ -14,19 +14,20 @@ use Rattle.model.specs.Reader.{Stand, Read, got, refused, after, each}
 use Rattle.model.specs.Number.{Numeral, numeral, illegible, onward, number, numberAt}
 use Rattle.model.specs.Tree.{Rule, allRules}
 use Rattle.model.specs.Book.{rule, ruleCount, chain}
+use Rattle.model.specs.Filling.{padded}
 use Rattle.model.proofs.Tests.{tests, same}
 use Rattle.model.proofs.Success as success
+use Rattle.model.proofs.Filling.{padded-set}
 use Rattle.numbers.specs.Field.{bounded, fieldAt}
 use Rattle.expressions.specs.Told.{told, stand}
 use Rattle.expressions.specs.declared.ExpressionRead.{ExpressionRead}
 use Rattle.expressions.specs.declared.ExpressionRead.the-variants as expressionRead
 use Rattle.expressions.proofs.Ends.{told-refusal}
-use Rattle.book.specs.Contents.{padded, starts}
+use Rattle.book.specs.Contents.{starts}
 use Rattle.book.specs.Inner.{Finds, chainsTold}
 use Rattle.book.specs.Held.{Held, Charting}
 use Rattle.book.specs.declared.ChainsRead.{ChainsRead}
 use Rattle.book.specs.declared.ChainsRead.the-variants.{Got, Refused}
-use Rattle.book.proofs.Padding.{padded-set}
 use Rattle.book.proofs.Known.{Fit, count-known, SomeRules, rules-known}
 use Rattle.book.proofs.Afterwards.{after-got, after-refused, behind, behind-none, each-none, each-refused, each-more}
 

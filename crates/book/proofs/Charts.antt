@@ -13,10 +13,11 @@ use Rattle.model.specs.Tree.{placeOf, Rule, Book, Action, Every, allRules, rule
 use Rattle.model.specs.Tree.Action.{accept, drop, reject, log, empty, return, call}
 use Rattle.model.specs.Book.{bookOf}
 use Rattle.model.specs.Calls.{chainOf}
+use Rattle.model.specs.Filling.{padded}
 use Rattle.model.proofs.BookRead.{ActionFine}
-use Rattle.book.specs.Contents.{actionNumber, targetNumber, padded, starts, contentsOf, actionOf, Noted, NotedAll, Charted}
+use Rattle.model.proofs.Filling.{padded-at}
+use Rattle.book.specs.Contents.{actionNumber, targetNumber, starts, contentsOf, actionOf, Noted, NotedAll, Charted}
 use Rattle.book.specs.Own.{noRule, ruleAt, Owned}
-use Rattle.book.proofs.Padding.{padded-at}
 use Rattle.book.proofs.Known.{KnownRule, KnownBook, Numbered, numbered-last, book-known}
 
 -- what an array says of rule i

@@ -6,10 +6,11 @@ use native.Mathlib.Omega.{arith}
 use lib.ListN.{length, set, length-map}
 use Rattle.model.specs.Limits.{rulesMost}
 use Rattle.model.specs.Tree.{Rule, placeOf}
-use Rattle.book.specs.Contents.{actionNumber, targetNumber, padded}
+use Rattle.model.specs.Filling.{padded}
+use Rattle.model.proofs.Filling.{padded-set}
+use Rattle.book.specs.Contents.{actionNumber, targetNumber}
 use Rattle.book.specs.Held.{Held, Seen}
 use Rattle.book.specs.declared.RuleSeen.{RuleSeen}
-use Rattle.book.proofs.Padding.{padded-set}
 
 map-append : (f : Rule → ℕ) (a b : List Rule) → map f (a ++ b) ≡ map f a ++ map f b
 map-append f [] b = refl

@@ -1,13 +1,14 @@
 -- A book's contents as the code holds them, and what walking over them relies on.
 use Prim.Native.Nat.{ℕ, suc, _+_, _-_, _≤_, _<_}
 use mathlib.Core.Path.{_≡_}
-use mathlib.Core.List.{List, [], _∷_, _++_, map}
-use lib.ListN.{length, getD, replicate}
+use mathlib.Core.List.{List, [], _∷_, map}
+use lib.ListN.{length, getD}
 use Rattle.model.specs.Limits.{chainsMost, rulesMost}
 use Rattle.model.specs.Reader.{choose}
 use Rattle.model.specs.Calls.{chainOf}
 use Rattle.model.specs.Tree.{Rule, Book, Action, placeOf, rulesOf}
 use Rattle.model.specs.Tree.Action.{accept, drop, reject, log, empty, return, call}
+use Rattle.model.specs.Filling.{padded}
 use Rattle.book.specs.declared.Contents.{Contents}
 
 -- document 01's numbers of the actions, and the called chain
@@ -28,10 +29,6 @@ targetNumber log = 0
 targetNumber empty = 0
 targetNumber return = 0
 targetNumber (call c) = c
-
--- slots that are not used are 0
-abbrev pub padded : ℕ → List ℕ → List ℕ
-padded slots xs = xs ++ replicate (slots - length xs) 0
 
 -- the number of each chain's first rule, where i rules stand before the first chain, and last the total
 unfoldable pub starts : ℕ → List (List Rule) → List ℕ

@@ -4,7 +4,8 @@ use mathlib.Core.List.{List, map}
 use mathlib.Core.Path.{_≡_}
 use Rattle.model.specs.Limits.{bookBytes, chainsMost, rulesMost}
 use Rattle.model.specs.Tree.{Rule, placeOf, allRules}
-use Rattle.book.specs.Contents.{actionNumber, targetNumber, padded, starts}
+use Rattle.model.specs.Filling.{padded}
+use Rattle.book.specs.Contents.{actionNumber, targetNumber, starts}
 use Rattle.book.specs.declared.RuleSeen.{RuleSeen}
 
 pub record Held (done : List Rule) (place action target expression end : List ℕ) : Type 0 where

@@ -11,9 +11,10 @@ use lib.Seq.{getD-at, append-snoc}
 use Rattle.model.specs.Answer.{fine, when}
 use Rattle.model.specs.Spans.{Span, Spans}
 use Rattle.model.specs.Plan.{Port, rangesOf}
+use Rattle.model.specs.Filling.{padded}
 use Rattle.plan.specs.declared.PlanContents.{PlanContents}
 use Rattle.plan.specs.declared.Asked.the-variants.{At}
-use Rattle.plan.specs.Contents.{padded, lows, highs, numbers, allRanges, starts, contentsOf, spansFrom, rangesAt, portsAt, asked, rangesAsked}
+use Rattle.plan.specs.Contents.{lows, highs, numbers, allRanges, starts, contentsOf, spansFrom, rangesAt, portsAt, asked, rangesAsked}
 
 -- xs stands in w from k on
 abbrev pub Lies : List ℕ → ℕ → List ℕ → Type 0

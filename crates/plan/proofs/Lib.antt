@@ -1,5 +1,4 @@
 -- What the proofs of this crate cite.
-mod Put
 mod Fields
 mod Told
 mod Ranges

@@ -9,12 +9,12 @@ use Rattle.model.specs.Reader.{Read, got, refused, after}
 use Rattle.model.specs.Number.{numeral, illegible}
 use Rattle.model.specs.Spans.{Span, Spans}
 use Rattle.model.specs.Plan.{rangesFrom}
+use Rattle.model.proofs.Filling.{put-none, put-more}
 use Rattle.numbers.specs.Field.{fieldAt}
 use Rattle.plan.specs.declared.PlanStep.{PlanStep}
 use Rattle.plan.specs.declared.PlanStep.the-variants.{Next, Bad}
 use Rattle.plan.specs.Contents.{lows, highs}
 use Rattle.plan.specs.Written.{standing, Ends, ends, RangesAre}
-use Rattle.plan.proofs.Put.{put-none, put-more}
 use Rattle.plan.proofs.Fields.{field-bad, field-got}
 
 pub ends-same : {a b c d : List ℕ} → a ≡ b → c ≡ d → ends a c ≡ ends b d

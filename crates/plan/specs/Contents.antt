@@ -9,6 +9,7 @@ use Rattle.model.specs.Answer as answer
 use Rattle.model.specs.Answer.{Answer, fine, when}
 use Rattle.model.specs.Spans.{Span, Spans, Canonical}
 use Rattle.model.specs.Plan.{Port, rangesOf}
+use Rattle.model.specs.Filling.{padded}
 use Rattle.plan.specs.declared.PlanRead.the-variants.{Fine, Refused}
 use Rattle.plan.specs.declared.PlanContents.{PlanContents}
 use Rattle.plan.specs.declared.PlanAnswer.{PlanAnswer}
@@ -18,10 +19,6 @@ use Rattle.plan.specs.declared.Asked.the-variants.{At, Missing}
 -- room for the ranges of every port
 abbrev pub slots : ℕ
 slots = portsMost * rangesMost
-
--- slots that are not used are 0
-abbrev pub padded : ℕ → List ℕ → List ℕ
-padded n xs = xs ++ replicate (n - length xs) 0
 
 abbrev pub lows : Spans → List ℕ
 lows rs = map (λ (r : Span). r .low) rs

@@ -1,13 +1,14 @@
 -- What the functions that read a plan from left to right leave in the lent arrays.
-use Prim.Native.Nat.{ℕ, zero, suc, _+_, _≤_}
+use Prim.Native.Nat.{ℕ, zero, suc, _≤_}
 use mathlib.Core.Path.{_≡_}
-use mathlib.Core.List.{List, _++_}
-use lib.ListN.{length, take, drop}
+use mathlib.Core.List.{List}
+use lib.ListN.{length}
 use Rattle.model.specs.Limits.{portHighest, portsMost, rangesMost}
 use Rattle.model.specs.Reader.{Stand, Read, got, refused, Reader, _>>=_, give}
 use Rattle.model.specs.Book.{within}
 use Rattle.model.specs.Spans.{Spans}
 use Rattle.model.specs.Plan.{Port, rangesFrom}
+use Rattle.model.specs.Filling.{put}
 use Rattle.plan.specs.Contents.{slots, lows, highs, numbers, allRanges, starts}
 use Rattle.plan.specs.declared.PlanStep.{PlanStep}
 use Rattle.plan.specs.declared.PlanStep.the-variants as step
@@ -19,10 +20,6 @@ use Rattle.plan.specs.declared.CountRead.the-variants as count
 -- a plan counts neither rules nor kinds 3
 abbrev pub standing : ℕ → Stand
 standing at = record { at = at; rules = 0; sources = 0 }
-
--- w with xs in place of what stands from n on
-unfoldable pub put : List ℕ → ℕ → List ℕ → List ℕ
-put w n xs = take n w ++ (xs ++ drop (n + length xs) w)
 
 -- the arrays of the ranges' ends
 pub record Ends : Type 0 where

@@ -9,11 +9,11 @@ use lib.Dec.{leb}
 use lib.ListN.{length, take, drop, length-append}
 use lib.Seq.{take-at}
 use borrow.Author.Tests.{le-leb, lt-leb}
-use Rattle.unfolding.specs.Put.{put}
-use Rattle.unfolding.proofs.Puts.{put-front}
 use Rattle.text.specs.Puts.{Puts}
 use Rattle.report.specs.Reports.{answerOf, textAfter}
 use Rattle.model.specs.Answer.{when}
+use Rattle.model.specs.Filling.{put}
+use Rattle.model.proofs.Filling.{put-front}
 use Rattle.report.specs.declared.Reported.{Reported}
 use Rattle.report.specs.declared.Reported.the-variants.{Bytes, Short}
 

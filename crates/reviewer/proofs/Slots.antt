@@ -7,8 +7,8 @@ use mathlib.Core.List.{List, _++_, append-assoc, append-nil}
 use mathlib.Core.Path.{_≡_, ap, sym, _∙_}
 use lib.ListN.{length, getD, take, drop, set, length-append, length-take, length-drop}
 use lib.Seq.{take-suc, take-suc-set, getD-drop, drop-length}
-use Rattle.unfolding.specs.Put.{put}
-use Rattle.unfolding.proofs.Puts.{put-put, put-front, put-snoc}
+use Rattle.model.specs.Filling.{put}
+use Rattle.model.proofs.Filling.{put-put, put-front, put-snoc}
 
 pub take-more : (ws out : List ℕ) (from i : ℕ) → i < length out → from + i < length ws → take i out ≡ take i (drop from ws) →
     take (i + 1) (set out i (getD ws (from + i) 0)) ≡ take (i + 1) (drop from ws)

@@ -4,7 +4,7 @@ ghost use mathlib.Core.List.{_∷_, _++_};
 ghost use Prim.Native.Nat.{_+_, _≤_};
 ghost use lib.ListN.{length, take, drop};
 ghost use Rattle.model.specs.Limits.{spansMost};
-ghost use Rattle.unfolding.specs.Put.{put};
+ghost use Rattle.model.specs.Filling.{put};
 ghost use Rattle.reviewer.specs.StateWords.{stateSize};
 use suspects::Suspects;
 

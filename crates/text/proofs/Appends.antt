@@ -12,8 +12,8 @@ use lib.Seq.{take-suc, take-all}
 use borrow.Author.Tests.{lt-ltb, le-ltb}
 use Rattle.model.specs.Answer.{when}
 use Rattle.model.specs.Report.{digits, decimal}
-use Rattle.unfolding.specs.Put.{put}
-use Rattle.unfolding.proofs.Puts.{length-put, put-put, put-none, put-snoc}
+use Rattle.model.specs.Filling.{put}
+use Rattle.model.proofs.Filling.{length-put, put-put, put-none, put-snoc}
 use Rattle.text.specs.Puts.{Puts, decimalMost}
 
 -- as many bytes as before

@@ -3,7 +3,7 @@ use Prim.Native.Nat.{ℕ, _+_, _≤_}
 use mathlib.Core.List.{List}
 use mathlib.Core.Path.{_≡_}
 use lib.ListN.{length}
-use Rattle.unfolding.specs.Put.{put}
+use Rattle.model.specs.Filling.{put}
 
 -- the bytes that a decimal number needs at most, and an address with a dot between its four parts
 abbrev pub decimalMost : ℕ

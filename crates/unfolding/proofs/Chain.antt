@@ -6,8 +6,8 @@ use mathlib.Core.List.{List, [], _∷_, _++_}
 use lib.ListN.{length, getD, take, set, length-set}
 use lib.Seq.{take-take, take-set-le, getD-set-same}
 use Rattle.model.specs.Limits.{bookBytes, rulesMost}
+use Rattle.model.specs.Filling.{put}
 use Rattle.book.specs.Contents.{actionOf}
-use Rattle.unfolding.specs.Put.{put}
 use Rattle.unfolding.specs.Emitted.{ruleWords, after, ownAt, chainWords}
 use Rattle.unfolding.specs.Walking.{ownWords, Ruled, EnterPre, EnterPost, ChainPre, ChainPost}
 use Rattle.unfolding.proofs.Actions.{plain, follows}

@@ -7,11 +7,11 @@ use mathlib.Core.List.{List, [], _∷_, _++_}
 use lib.ListN.{length, getD, take, set}
 use lib.Seq.{take-set-le, take-suc-set}
 use Rattle.model.specs.Tree.{Action}
+use Rattle.model.specs.Filling.{put}
+use Rattle.model.proofs.Filling.{put-none}
 use Rattle.book.specs.Contents.{actionOf}
-use Rattle.unfolding.specs.Put.{put}
 use Rattle.unfolding.specs.Emitted.{entry, ruleWords, after}
 use Rattle.unfolding.specs.Walking.{Writable, EnterPre, EnterPost}
-use Rattle.unfolding.proofs.Puts.{put-none}
 use Rattle.unfolding.proofs.Entries.{entry-length, take-next}
 use Rattle.unfolding.proofs.Actions.{denies, silent, leaves, first-accepts, rest-accepts}
 

@@ -6,10 +6,10 @@ use mathlib.Core.Path.{_≡_, ap, sym, _∙_}
 use mathlib.Core.List.{List, [], _∷_, _++_}
 use lib.ListN.{length, getD, take, set, length-set}
 use lib.Seq.{length-take-le, take-suc}
-use Rattle.unfolding.specs.Put.{put}
+use Rattle.model.specs.Filling.{put}
+use Rattle.model.proofs.Filling.{put-put, put-none, put-snoc, set-put, length-put}
 use Rattle.unfolding.specs.Emitted.{entry}
 use Rattle.unfolding.specs.Walking.{Writable}
-use Rattle.unfolding.proofs.Puts.{put-put, put-none, put-snoc, set-put, length-put}
 
 pub entry-length : (a n m : ℕ) (ctx : List ℕ) → m ≤ length ctx → length (entry a n (take m ctx)) ≡ m + 3
 entry-length a n m ctx h = omega (arith, length-take-le m ctx h)

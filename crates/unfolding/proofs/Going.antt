@@ -5,10 +5,10 @@ use mathlib.Core.Path.{_≡_, refl, ap, sym, _∙_}
 use mathlib.Core.List.{List, [], _++_}
 use lib.ListN.{length, take, length-append}
 use lib.Seq.{take-take}
-use Rattle.unfolding.specs.Put.{put}
+use Rattle.model.specs.Filling.{put}
+use Rattle.model.proofs.Filling.{put-put, put-none}
 use Rattle.unfolding.specs.Emitted.{ruleWords, after, ownAt, actionAt, rulesWords}
 use Rattle.unfolding.specs.Walking.{Ruled}
-use Rattle.unfolding.proofs.Puts.{put-put, put-none}
 
 module _ (action target expression : List ℕ) (run : List ℕ → ℕ → List ℕ) where
   -- what the rules from i up to the end put in, what rule i does, and the conditions after it

@@ -1,4 +1,3 @@
-pub mod Puts
 pub mod Entries
 pub mod Actions
 pub mod Entered

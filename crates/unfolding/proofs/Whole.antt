@@ -7,11 +7,11 @@ use lib.ListN.{length, take, drop, length-append}
 use Rattle.model.specs.Limits.{rulesMost}
 use Rattle.model.specs.Tree.{Book}
 use Rattle.model.specs.Unfolding.{listOf, wordsOf}
-use Rattle.unfolding.specs.Put.{put}
+use Rattle.model.specs.Filling.{put}
+use Rattle.model.proofs.Filling.{put-put, put-front}
 use Rattle.unfolding.specs.Emitted.{entry, chainWords}
 use Rattle.unfolding.specs.Walking.{Writable, ChainPre, ChainPost}
 use Rattle.unfolding.specs.Unfolded.{Holds, Unfoldable, Unfolded}
-use Rattle.unfolding.proofs.Puts.{put-put, put-front}
 use Rattle.unfolding.proofs.ListWords.{list-words}
 use Rattle.unfolding.proofs.LoopFreeOrder.{from-entry}
 

@@ -1,4 +1,3 @@
-pub mod Put
 pub mod Emitted
 pub mod Walking
 pub mod Unfolded

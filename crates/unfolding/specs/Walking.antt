@@ -4,8 +4,8 @@ use mathlib.Core.Path.{_≡_}
 use mathlib.Core.List.{List, []}
 use lib.ListN.{length, getD, take}
 use Rattle.model.specs.Limits.{bookBytes, rulesMost}
+use Rattle.model.specs.Filling.{put}
 use Rattle.book.specs.Contents.{Shape, rulesIn, actionOf}
-use Rattle.unfolding.specs.Put.{put}
 use Rattle.unfolding.specs.Emitted.{ruleWords, after, chainWords}
 
 -- there is room for a list rule with the first `count` words of ctx

@@ -6,7 +6,7 @@ use book::STARTS;
 ghost use mathlib.Core.Path.{_≡_};
 ghost use Prim.Native.Nat.{_+_};
 ghost use lib.ListN.{length, take};
-ghost use Rattle.unfolding.specs.Put.{put};
+ghost use Rattle.model.specs.Filling.{put};
 ghost use Rattle.unfolding.specs.Emitted.{entry};
 ghost use Rattle.unfolding.specs.Walking.{Writable, EnterPre, EnterPost, ChainPre, ChainPost};
 ghost use Rattle.unfolding.specs.Unfolded.{Unfoldable, Unfolded};

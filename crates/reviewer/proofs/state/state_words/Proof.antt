@@ -3,7 +3,7 @@ use Prim.Native.Nat.{ℕ}
 use native.Mathlib.Omega.{arith}
 use mathlib.Core.Path.{ap, sym, _∙_}
 use lib.ListN.{length-replicate}
-use Rattle.unfolding.specs.Put.{put}
+use Rattle.model.specs.Filling.{put}
 use Rattle.reviewer.specs.StateWords.{stateSize}
 use Rattle.reviewer.proofs.Slots.{put-parts}
 use borrow.Author.Needs.{needs}

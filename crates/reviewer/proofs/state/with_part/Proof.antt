@@ -5,8 +5,8 @@ use mathlib.Core.Path.{_≡_, ap, sym, _∙_}
 use lib.ListN.{length, take}
 use lib.Seq.{take-all}
 use borrow.Author.Needs.{needs}
-use Rattle.unfolding.specs.Put.{put}
-use Rattle.unfolding.proofs.Puts.{put-none}
+use Rattle.model.specs.Filling.{put}
+use Rattle.model.proofs.Filling.{put-none}
 use Rattle.reviewer.specs.StateWords.{stateSize}
 use Rattle.reviewer.proofs.Slots.{put-more}
 use Rattle.reviewer.proofs.state.with_part.Statement.{statement}
