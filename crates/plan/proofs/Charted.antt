@@ -11,6 +11,7 @@ use Rattle.model.specs.Answer as answer
 use Rattle.model.specs.Answer.{Answer, fine}
 use Rattle.model.specs.Spans.{Canonical}
 use Rattle.model.specs.Plan.{Port, planOf}
+use Rattle.model.proofs.PlanRead.{GoodPorts, GoodPlan, plan-good}
 use Rattle.plan.specs.declared.PlanRead.{PlanRead}
 use Rattle.plan.specs.declared.PlanRead.the-variants.{Fine, Refused}
 use Rattle.plan.specs.declared.PlanContents.{PlanContents}
@@ -19,7 +20,6 @@ use Rattle.plan.specs.declared.Asked.the-variants.{At}
 use Rattle.plan.specs.Contents.{asked, contentsOf, planAnswer, rangesAt, PlanShape, PlanCharted}
 use Rattle.plan.proofs.Ports.{all-room}
 use Rattle.plan.proofs.Held.{Held, held, held-first, held-next, held-ranges, held-ports, held-asked}
-use Rattle.plan.proofs.Known.{GoodPorts, GoodPlan, plan-good}
 
 -- port j of the contents, with all ranges up to its own before `most`
 record Standing (c : PlanContents) (j most : ℕ) : Type 0 where

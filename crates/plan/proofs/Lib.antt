@@ -7,6 +7,5 @@ mod Whole
 mod Asking
 mod Held
 -- What those above cite.
-pub mod Known
 pub mod Charted
 pub mod Unique
