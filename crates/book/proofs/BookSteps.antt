@@ -12,6 +12,7 @@ use Rattle.model.specs.Tree.{Rule, Book}
 use Rattle.model.specs.Book.{within, chain, end, wholeBook, bookOf, start}
 use Rattle.model.proofs.Success as success
 use Rattle.model.proofs.Filling.{padded-none, padded-zero}
+use Rattle.model.proofs.Success.{Moved, within-got}
 use Rattle.numbers.specs.Field.{fieldAt}
 use Rattle.expressions.specs.Told.{stand}
 use Rattle.expressions.proofs.Fields.{field-got, field-refused}
@@ -23,7 +24,6 @@ use Rattle.book.specs.declared.ChainsRead.{ChainsRead}
 use Rattle.book.specs.declared.ChainsRead.the-variants.{Got, Refused}
 use Rattle.book.specs.declared.BookRead.the-variants as bookRead
 use Rattle.book.specs.declared.BookAnswer.{BookAnswer}
-use Rattle.book.proofs.Onward.{Moved, within-moved}
 use Rattle.book.proofs.Afterwards.{after-got, after-refused, each-sized}
 
 -- arrays of zeros chart no chains
@@ -85,7 +85,7 @@ module _ (chains : ℕ) (s : List ℕ) (at : ℕ) where
 -- the limits of a field that was read
 pub field-limits : (s : List ℕ) (at low high v next : ℕ) → fieldAt s at low high ≡ numeral v next → (low ≤ v) × (v ≤ high)
 field-limits s at low high v next e =
-    let k = subst (λ m. success.Got m (λ n st′. (low ≤ n) × (n ≤ high) × Moved s (stand at 0 0) st′)) (field-got s at low high 0 0 v next e) (within-moved low high s (stand at 0 0)) in
+    let k = subst (λ m. success.Got m (λ n st′. (low ≤ n) × (n ≤ high) × Moved s (stand at 0 0) st′)) (field-got s at low high 0 0 v next e) (within-got low high s (stand at 0 0)) in
     (k .0, k .1)
 
 module _ (s : List ℕ) where

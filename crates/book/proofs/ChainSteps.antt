@@ -18,6 +18,7 @@ use Rattle.model.specs.Filling.{padded}
 use Rattle.model.proofs.Tests.{tests, same}
 use Rattle.model.proofs.Success as success
 use Rattle.model.proofs.Filling.{padded-set}
+use Rattle.model.proofs.BookKnown.{Fit, count-known, SomeRules, rules-known}
 use Rattle.numbers.specs.Field.{bounded, fieldAt}
 use Rattle.expressions.specs.Told.{told, stand}
 use Rattle.expressions.specs.declared.ExpressionRead.{ExpressionRead}
@@ -28,7 +29,6 @@ use Rattle.book.specs.Inner.{Finds, chainsTold}
 use Rattle.book.specs.Held.{Held, Charting}
 use Rattle.book.specs.declared.ChainsRead.{ChainsRead}
 use Rattle.book.specs.declared.ChainsRead.the-variants.{Got, Refused}
-use Rattle.book.proofs.Known.{Fit, count-known, SomeRules, rules-known}
 use Rattle.book.proofs.Afterwards.{after-got, after-refused, behind, behind-none, each-none, each-refused, each-more}
 
 -- a count of rules is a field: the room that is left is its limit

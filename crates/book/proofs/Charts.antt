@@ -16,9 +16,9 @@ use Rattle.model.specs.Calls.{chainOf}
 use Rattle.model.specs.Filling.{padded}
 use Rattle.model.proofs.BookRead.{ActionFine}
 use Rattle.model.proofs.Filling.{padded-at}
+use Rattle.model.proofs.BookKnown.{KnownRule, KnownBook, Numbered, numbered-last, book-known}
 use Rattle.book.specs.Contents.{actionNumber, targetNumber, starts, contentsOf, actionOf, Noted, NotedAll, Charted}
 use Rattle.book.specs.Own.{noRule, ruleAt, Owned}
-use Rattle.book.proofs.Known.{KnownRule, KnownBook, Numbered, numbered-last, book-known}
 
 -- what an array says of rule i
 pub column-at : (f : Rule → ℕ) → f noRule ≡ 0 → (rs : List Rule) (i : ℕ) → getD (padded rulesMost (map f rs)) i 0 ≡ f (getD rs i noRule)

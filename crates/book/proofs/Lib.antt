@@ -1,6 +1,4 @@
 -- What the proofs of this crate, and of the crates above it, cite.
-pub mod Onward
-pub mod Known
 pub mod Charts
 mod ActionSteps
 mod Notes

@@ -9,9 +9,11 @@ use Rattle.model.specs.Reader.{Stand, Read, got, refused, each}
 use Rattle.model.specs.Tree.{Rule, Action}
 use Rattle.model.specs.Tree.Action.{accept, drop, reject, log, empty, return, call}
 use Rattle.model.specs.Book.{expression, actionIn, rule}
-use Rattle.model.proofs.BookRead.{ActionFine}
+use Rattle.model.proofs.BookRead.{ActionFine, action-got}
 use Rattle.model.proofs.Standing.{read-stands}
 use Rattle.model.proofs.Success as success
+use Rattle.model.proofs.BookKnown.{KnownRule, OneRule, rule-known}
+use Rattle.model.proofs.Success.{Moved}
 use Rattle.expressions.specs.Told.{told, stand}
 use Rattle.expressions.specs.declared.ExpressionRead.{ExpressionRead}
 use Rattle.expressions.specs.declared.ExpressionRead.the-variants as expressionRead
@@ -24,8 +26,6 @@ use Rattle.book.specs.declared.RuleSeen.{RuleSeen}
 use Rattle.book.specs.declared.ActionRead.the-variants as actionRead
 use Rattle.book.specs.declared.RuleRead.{RuleRead}
 use Rattle.book.specs.declared.RuleRead.the-variants as ruleRead
-use Rattle.book.proofs.Onward.{Moved, action-moved}
-use Rattle.book.proofs.Known.{KnownRule, OneRule, rule-known}
 use Rattle.book.proofs.Afterwards.{after-got, after-refused, behind, behind-none, each-none, each-refused, each-more}
 
 -- what an answer says of the model's reading
@@ -40,7 +40,7 @@ record FoundAction (chains : ℕ) (s : List ℕ) (st : Stand) (a : ℕ) (c : Cha
   pub target : chainNumber (targetNumber act) ≡ c
 
 found-action : (chains : ℕ) (s : List ℕ) (st : Stand) (a : ℕ) (c : ChainNumber) (next : ℕ) → actionRead.Got a c next ≡ actionTold (actionIn chains s st) → FoundAction chains s st a c next
-found-action chains s st a c next = go (actionIn chains s st) refl (action-moved chains s st)
+found-action chains s st a c next = go (actionIn chains s st) refl (action-got chains s st)
   where
     go : (m : Read Action) → actionIn chains s st ≡ m → success.Got m (λ a st′. ActionFine chains a × Moved s st st′) → actionRead.Got a c next ≡ actionTold m → FoundAction chains s st a c next
     go (got x st′) q p t =

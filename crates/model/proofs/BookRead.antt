@@ -3,7 +3,7 @@ use Prim.Native.Nat.{ℕ, zero, suc, _+_, _*_, _≤_, _<_}
 use mathlib.Core.Bool.{_&&_, and-eq-true-iff}
 use mathlib.Core.List.{List, [], _∷_, _++_}
 use mathlib.Core.Option.{Option, none, some}
-use mathlib.Core.Path.{_≡_, refl}
+use mathlib.Core.Path.{_≡_, refl, _∙_}
 use native.Mathlib.Omega.{arith}
 use lib.Dec.{leb, ltb}
 use lib.ListN.{length, length-append}
@@ -23,25 +23,31 @@ use Rattle.model.specs.Edges.{edges, edgesAll, rulesEdges, bookEdges}
 use Rattle.model.proofs.Tests.{tests, when-cases}
 use Rattle.model.proofs.EveryRule.{every-append}
 use Rattle.model.proofs.LoopsExact.{lowest-none}
-use Rattle.model.proofs.Success.{Fine, fine-is, Got, got-after, got-as, got-when, got-either, Moved, number-got, within-got, end-got, each-got}
-
-abbrev Fits : Stand → Type 0
-Fits st = st .sources ≤ sourcesMost
+use Rattle.model.proofs.Success.{Fine, fine-is, Got, got-after, got-as, got-when, got-either, Onward, both, Moved, number-got, within-got, end-got, each-got}
 
 -- so many edges are read: two for each kind 3 counted, and the count keeps its limit
-record Grown (st : Stand) (n : ℕ) (st′ : Stand) : Type 0 where
+pub record Grown (st : Stand) (n : ℕ) (st′ : Stand) : Type 0 where
   pub edges : n + 2 * st .sources ≡ 2 * st′ .sources
-  pub limit : st′ .sources ≤ sourcesMost
+  pub limit : st .sources ≤ sourcesMost → st′ .sources ≤ sourcesMost
+
+steady : {st st′ : Stand} → st′ .sources ≡ st .sources → Grown st 0 st′
+steady e = record { edges = omega arith; limit = λ h. omega arith }
+
+grow : {st st₁ st₂ : Stand} (n a b : ℕ) → n ≡ a + b → Grown st a st₁ → Grown st₁ b st₂ → Grown st n st₂
+grow n a b e p q = record { edges = omega (arith, p .edges, q .edges); limit = λ h. q .limit (p .limit h) }
 
 -- an expression that is read starts where its reading does, and the places of its leaves rise from there
-record ExpressionRead (st : Stand) (e : Expr) (st′ : Stand) : Type 0 where
-  pub on : st .at < st′ .at
+pub record ExpressionRead (s : List ℕ) (st : Stand) (e : Expr) (st′ : Stand) : Type 0 where
+  pub onward : Onward s st st′
   pub place : placeOf e ≡ st .at
   pub rises : Rises (st .at) e (st′ .at)
   pub grown : Grown st (length (edges e)) st′
 
-record OperandsRead (st : Stand) (es : List Expr) (st′ : Stand) : Type 0 where
+-- operands, of which there may be none, where the place is within the bytes
+record OperandsRead (s : List ℕ) (st : Stand) (es : List Expr) (st′ : Stand) : Type 0 where
   pub on : st .at ≤ st′ .at
+  pub inside : st′ .at ≤ length s
+  pub rules : st′ .rules ≡ st .rules
   pub rises : RiseAll (st .at) (exprs es) (st′ .at)
   pub grown : Grown st (length (edgesAll (exprs es))) st′
 
@@ -56,57 +62,67 @@ mutual
   widers none low high low′ h r = tt
   widers (more e es) low high low′ h r = (r .0, omega arith, r .2, wider e low (r .0) low′ h (r .3), r .4)
 
-operand-more : (st st₁ st₂ : Stand) (e : Expr) (es : List Expr) → ExpressionRead st e st₁ → OperandsRead st₁ es st₂ → OperandsRead st (e ∷ es) st₂
+operand-more : (s : List ℕ) (st st₁ st₂ : Stand) (e : Expr) (es : List Expr) → ExpressionRead s st e st₁ → OperandsRead s st₁ es st₂ → OperandsRead s st (e ∷ es) st₂
 unfolding edges
-operand-more st st₁ st₂ e es p q = record {
-  on = omega arith;
-  rises = (st₁ .at, omega arith, q .on, p .rises, q .rises);
-  grown = omega (arith, length-append (edges e) (edgesAll (exprs es)));
+operand-more s st st₁ st₂ e es p q = record {
+  on = omega (arith, p .onward .on, q .on);
+  inside = q .inside;
+  rules = q .rules ∙ p .onward .rules;
+  rises = (st₁ .at, omega (arith, p .onward .on), q .on, p .rises, q .rises);
+  grown = grow _ _ _ (length-append (edges e) (edgesAll (exprs es))) (p .grown) (q .grown);
 }
 
-operands-got : (r : Reader Expr) → ((s : List ℕ) (st : Stand) → Fits st → Got (r s st) (ExpressionRead st)) →
-    (n i : ℕ) (s : List ℕ) (st : Stand) → Fits st → Got (each n i (λ i. r) s st) (λ es st′. OperandsRead st es st′ × (length es ≡ n))
+operands-got : (r : Reader Expr) (s : List ℕ) → ((st : Stand) → Got (r s st) (ExpressionRead s st)) →
+    (n i : ℕ) (st : Stand) → st .at ≤ length s → Got (each n i (λ i. r) s st) (λ es st′. OperandsRead s st es st′ × (length es ≡ n))
 unfolding edges
-operands-got r f n i s st h = each-got Fits ExpressionRead OperandsRead (λ st st′ e p. p .grown .limit)
-    (λ st k. record { on = omega arith; rises = tt; grown = omega arith }) operand-more (λ i. r) (λ i. f) n i s st h
+operands-got r s f n i st h = each-got s (λ st. st .at ≤ length s) (λ i. ExpressionRead s) (λ i. OperandsRead s) (λ i st st′ e k p. p .onward .inside)
+    (λ i st k. record { on = omega arith; inside = k; rules = refl; rises = tt; grown = steady refl }) (λ i. operand-more s) (λ i. r) (λ i st k. f st) n i st h
 
-source-got : (start : ℕ) (s : List ℕ) (st : Stand) → Got (oneMoreSource start s st) (λ a st′. (st′ .at ≡ st .at) × (st′ .sources ≡ suc (st .sources)) × (st′ .sources ≤ sourcesMost))
-source-got start s st = got-when (ltb (st .sources) sourcesMost) _ _ _ (λ e. (refl, refl, omega tests)) (λ e. tt)
+source-got : (start : ℕ) (s : List ℕ) (st : Stand) → Got (oneMoreSource start s st) (λ a st′. (st′ .at ≡ st .at) × (st′ .rules ≡ st .rules) × (st′ .sources ≡ suc (st .sources)) × (st′ .sources ≤ sourcesMost))
+source-got start s st = got-when (ltb (st .sources) sourcesMost) _ _ _ (λ e. (refl, refl, refl, omega tests)) (λ e. tt)
 
-expression-got : (levels : ℕ) (s : List ℕ) (st : Stand) → Fits st → Got (expression levels s st) (ExpressionRead st)
+pub expression-got : (levels : ℕ) (s : List ℕ) (st : Stand) → Got (expression levels s st) (ExpressionRead s st)
 unfolding expression edges
-expression-got zero s st h = tt
-expression-got (suc levels) s st h = got-after (number s st) _ _ (number-got s st) (λ kind st₁ p. elim kind [
-  | zero ↦ record { on = p .on; place = refl; rises = tt; grown = omega arith }
+expression-got zero s st = tt
+expression-got (suc levels) s st = got-after (number s st) _ _ (number-got s st) (λ kind st₁ p. elim kind [
+  | zero ↦ record { onward = p .onward; place = refl; rises = tt; grown = steady (p .sources) }
   | suc zero ↦
-      got-after (expression levels s st₁) _ _ (expression-got levels s st₁ (omega arith)) (λ e st₂ q.
-      record { on = omega arith; place = refl; rises = wider e (st .at) (st₂ .at) (st₁ .at) (omega arith) (q .rises); grown = omega arith })
+      got-after (expression levels s st₁) _ _ (expression-got levels s st₁) (λ e st₂ q. record {
+        onward = both (p .onward) (q .onward);
+        place = refl;
+        rises = wider e (st .at) (st₂ .at) (st₁ .at) (omega arith) (q .rises);
+        grown = grow _ _ _ (omega arith) (steady (p .sources)) (q .grown);
+      })
   | suc (suc zero) ↦
       got-after (within 2 operandsMost s st₁) _ _ (within-got 2 operandsMost s st₁) (λ n st₂ q.
-      got-after (each n zero (λ i. expression levels) s st₂) _ _ (operands-got (expression levels) (expression-got levels) n zero s st₂ (omega arith)) (λ es st₃ r.
-      record { on = omega arith; place = refl; rises = widers (exprs es) (st .at) (st₃ .at) (st₂ .at) (omega arith) (r .0 .rises); grown = omega arith }))
+      got-after (each n zero (λ i. expression levels) s st₂) _ _ (operands-got (expression levels) s (expression-got levels s) n zero st₂ (q .2 .onward .inside)) (λ es st₃ r. record {
+        onward = record { on = omega arith; inside = r .0 .inside; rules = omega arith };
+        place = refl;
+        rises = widers (exprs es) (st .at) (st₃ .at) (st₂ .at) (omega arith) (r .0 .rises);
+        grown = grow _ _ _ (omega arith) (steady (q .2 .sources ∙ p .sources)) (r .0 .grown);
+      }))
   | suc (suc (suc zero)) ↦
       got-after (oneMoreSource (st .at) s st₁) _ _ (source-got (st .at) s st₁) (λ _ st₂ q.
       got-after (number s st₂) _ _ (number-got s st₂) (λ low st₃ r.
       got-after (number s st₃) _ _ (number-got s st₃) (λ high st₄ t.
-      record { on = omega arith; place = refl; rises = omega arith; grown = omega arith })))
+      record { onward = omega arith; place = refl; rises = omega arith; grown = record { edges = omega arith; limit = λ h. omega arith } })))
   | suc (suc (suc (suc zero))) ↦
       got-after (within 0 portHighest s st₁) _ _ (within-got 0 portHighest s st₁) (λ n st₂ q.
-      record { on = omega arith; place = refl; rises = omega arith; grown = omega arith })
+      record { onward = omega arith; place = refl; rises = omega arith; grown = steady (omega arith) })
   | suc (suc (suc (suc (suc zero)))) ↦
       got-after (number s st₁) _ _ (number-got s st₁) (λ low st₂ q.
       got-after (number s st₂) _ _ (number-got s st₂) (λ high st₃ r.
-      record { on = omega arith; place = refl; rises = omega arith; grown = omega arith }))
+      record { onward = omega arith; place = refl; rises = omega arith; grown = steady (omega arith) }))
   | suc (suc (suc (suc (suc (suc zero))))) ↦
       got-after (within 0 protocolHighest s st₁) _ _ (within-got 0 protocolHighest s st₁) (λ n st₂ q.
-      record { on = omega arith; place = refl; rises = omega arith; grown = omega arith })
+      record { onward = omega arith; place = refl; rises = omega arith; grown = steady (omega arith) })
   | suc (suc (suc (suc (suc (suc (suc zero)))))) ↦
       got-after (within 0 serviceHighest s st₁) _ _ (within-got 0 serviceHighest s st₁) (λ low st₂ q.
       got-after (within 0 serviceHighest s st₂) _ _ (within-got 0 serviceHighest s st₂) (λ high st₃ r.
-      record { on = omega arith; place = refl; rises = omega arith; grown = omega arith }))
+      record { onward = omega arith; place = refl; rises = omega arith; grown = steady (omega arith) }))
   | suc (suc (suc (suc (suc (suc (suc (suc zero))))))) ↦
       got-after (within 0 unreadHighest s st₁) _ _ (within-got 0 unreadHighest s st₁) (λ n st₂ q.
-      record { on = omega arith; place = refl; rises = omega arith; grown = omega arith })
+      record { onward = omega arith; place = refl; rises = omega arith; grown = steady (omega arith) })
   | suc (suc (suc (suc (suc (suc (suc (suc (suc kind)))))))) ↦ tt
 ])
 
@@ -120,11 +136,11 @@ ActionFine n empty = Unit {0}
 ActionFine n return = Unit {0}
 ActionFine n (call c) = (0 < c) × (c < n)
 
-called-got : (n : ℕ) (s : List ℕ) (st : Stand) → Got (calledChain n s st) (λ c st′. ((0 < c) × (c < n)) × Moved st st′)
+called-got : (n : ℕ) (s : List ℕ) (st : Stand) → Got (calledChain n s st) (λ c st′. ((0 < c) × (c < n)) × Moved s st st′)
 called-got n s st = got-after (number s st) _ _ (number-got s st) (λ c st₁ p.
     got-either (ltb zero c && ltb c n) _ _ s st₁ _ (λ e. let k = and-eq-true-iff (ltb zero c) (ltb c n) .0 e in ((ltb-true zero c (k .0), ltb-true c n (k .1)), p)) (λ e. tt))
 
-action-got : (n : ℕ) (s : List ℕ) (st : Stand) → Got (actionIn n s st) (λ a st′. ActionFine n a × Moved st st′)
+pub action-got : (n : ℕ) (s : List ℕ) (st : Stand) → Got (actionIn n s st) (λ a st′. ActionFine n a × Moved s st st′)
 action-got n s st = got-after (number s st) _ _ (number-got s st) (λ a st₁ p. elim a [
   | zero ↦ (tt, p)
   | suc zero ↦ (tt, p)
@@ -132,7 +148,7 @@ action-got n s st = got-after (number s st) _ _ (number-got s st) (λ a st₁ p.
   | suc (suc (suc zero)) ↦ (tt, p)
   | suc (suc (suc (suc zero))) ↦ (tt, p)
   | suc (suc (suc (suc (suc zero)))) ↦ (tt, p)
-  | suc (suc (suc (suc (suc (suc zero))))) ↦ got-after (calledChain n s st₁) _ _ (called-got n s st₁) (λ c st₂ q. (q .0, record { on = omega arith; sources = omega arith }))
+  | suc (suc (suc (suc (suc (suc zero))))) ↦ got-after (calledChain n s st₁) _ _ (called-got n s st₁) (λ c st₂ q. (q .0, record { onward = both (p .onward) (q .1 .onward); sources = q .1 .sources ∙ p .sources }))
   | suc (suc (suc (suc (suc (suc (suc a)))))) ↦ tt
 ])
 
@@ -167,32 +183,40 @@ rules-append : (n : ℕ) (st st₁ st₂ : Stand) (a b : List Rule) → RulesRea
 rules-append n st st₁ st₂ a b p q = record {
   places = places-append (st .at) a (st₁ .at) b (st₂ .at) (p .places) (q .places);
   rules = every-append (RuleFine n) a b (p .rules) (q .rules);
-  grown = omega (arith, edges-append a b, p .grown, q .grown);
+  grown = grow _ _ _ (edges-append a b) (p .grown) (q .grown);
 }
 
-rules-none : (n : ℕ) (st : Stand) → Fits st → RulesRead n st [] st
-rules-none n st h = record { places = omega arith; rules = tt; grown = omega arith }
+rules-none : (n : ℕ) (st : Stand) → RulesRead n st [] st
+rules-none n st = record { places = omega arith; rules = tt; grown = steady refl }
 
-rule-got : (n i : ℕ) (s : List ℕ) (st : Stand) → Fits st → Got (rule n i s st) (λ r st′. RulesRead n st (r ∷ []) st′)
-rule-got n i s st h =
+rule-got : (n i : ℕ) (s : List ℕ) (st : Stand) → Got (rule n i s st) (λ r st′. RulesRead n st (r ∷ []) st′)
+rule-got n i s st =
     got-after (actionIn n s st) _ _ (action-got n s st) (λ a st₁ p.
-    got-after (expression levelsMost s st₁) _ _ (expression-got levelsMost s st₁ (omega arith)) (λ e st₂ q. record {
+    got-after (expression levelsMost s st₁) _ _ (expression-got levelsMost s st₁) (λ e st₂ q. record {
       places = (omega arith, omega arith);
       rules = (record { action = p .0; placed = (st₁ .at, st₂ .at, q .rises) }, tt);
-      grown = omega (arith, length-append (edges e) []);
+      grown = grow _ _ _ (omega (arith, length-append (edges e) [])) (steady (p .1 .sources)) (q .grown);
     }))
 
-count-got : (s : List ℕ) (st : Stand) → Got (ruleCount s st) (λ n st′. Moved st st′)
+count-got : (s : List ℕ) (st : Stand) → Got (ruleCount s st) (λ n st′. (st .at < st′ .at) × (st′ .sources ≡ st .sources))
 count-got s st = got-after (number s st) _ _ (number-got s st) (λ n st₁ p.
-    got-when (leb (st₁ .rules + n) rulesMost) _ _ _ (λ e. record { on = p .on; sources = p .sources }) (λ e. tt))
+    got-when (leb (st₁ .rules + n) rulesMost) _ _ _ (λ e. (p .onward .on, p .sources)) (λ e. tt))
 
-chain-got : (n : ℕ) (s : List ℕ) (st : Stand) → Fits st → Got (chain n s st) (RulesRead n st)
-chain-got n s st h =
+-- rules, or chains, wherever they are read
+abbrev Anywhere : Stand → Type 0
+Anywhere st = Unit {0}
+
+chain-got : (n : ℕ) (s : List ℕ) (st : Stand) → Got (chain n s st) (RulesRead n st)
+chain-got n s st =
     got-after (ruleCount s st) _ _ (count-got s st) (λ k st₁ p.
     got-as (each k (st .rules) (rule n) s st₁) _
-    (each-got Fits (λ st r. RulesRead n st (r ∷ [])) (RulesRead n) (λ st st′ r p. p .grown .limit) (rules-none n)
-    (λ st st₁ st₂ r rs. rules-append n st st₁ st₂ (r ∷ []) rs) (rule n) (rule-got n) k (st .rules) s st₁ (omega arith))
-    (λ rs st₂ q. record { places = places-later (st .at) (st₁ .at) rs (st₂ .at) (omega arith) (q .0 .places); rules = q .0 .rules; grown = omega (arith, q .0 .grown) }))
+    (each-got s Anywhere (λ i st r. RulesRead n st (r ∷ [])) (λ i. RulesRead n) (λ i st st′ r h q. tt) (λ i st h. rules-none n st)
+    (λ i st st₁ st₂ r rs. rules-append n st st₁ st₂ (r ∷ []) rs) (rule n) (λ i st h. rule-got n i s st) k (st .rules) st₁ tt)
+    (λ rs st₂ q. record {
+      places = places-later (st .at) (st₁ .at) rs (st₂ .at) (omega arith) (q .0 .places);
+      rules = q .0 .rules;
+      grown = grow _ _ _ (omega arith) (steady (p .1)) (q .0 .grown);
+    }))
 
 -- WHAT A BOOK THAT IS READ IS
 pub record Sound (b : Book) : Type 0 where
@@ -209,15 +233,15 @@ whole-got s =
     got-after (within 1 chainsMost s st₁) _ _ (within-got 1 chainsMost s st₁) (λ n st₂ q.
     got-after (within 0 1 s st₂) _ _ (within-got 0 1 s st₂) (λ policy st₃ r.
     got-after (each n zero (λ i. chain n) s st₃) _ _
-    (each-got Fits (RulesRead n) (λ st cs. RulesRead n st (allRules cs)) (λ st st′ c p. p .grown .limit) (rules-none n)
-    (λ st st₁ st₂ c cs. rules-append n st st₁ st₂ c (allRules cs)) (λ i. chain n) (λ i. chain-got n) n zero s st₃ (omega arith)) (λ chains st₄ t.
+    (each-got s Anywhere (λ i. RulesRead n) (λ i st cs. RulesRead n st (allRules cs)) (λ i st st′ c h q. tt) (λ i st h. rules-none n st)
+    (λ i st st₁ st₂ c cs. rules-append n st st₁ st₂ c (allRules cs)) (λ i. chain n) (λ i st h. chain-got n s st) n zero st₃ tt) (λ chains st₄ t.
     got-after (end s st₄) _ _ (end-got s st₄) (λ e st₅ u. record {
       policy = r .1;
       some = omega arith;
       few = omega arith;
       rules = rw (t .1) (t .0 .rules);
       places = (st₃ .at, st₄ .at, t .0 .places);
-      edges = omega (arith, t .0 .grown);
+      edges = omega (arith, t .0 .grown .edges, t .0 .grown .limit (omega (arith, p .2 .sources, q .2 .sources, r .2 .sources)));
     })))))
 
 book-got : (s : List ℕ) → Got (bookOf s) (λ b st′. Sound b)

@@ -16,9 +16,9 @@ use Rattle.model.specs.Slices.{matchIn}
 use Rattle.model.proofs.BookRead.{Places, readable-is}
 use Rattle.model.proofs.Placed.{readable-read}
 use Rattle.model.proofs.Tests.{cases}
+use Rattle.model.proofs.BookKnown.{book-known}
 use Rattle.book.specs.Contents.{contentsOf}
 use Rattle.book.specs.Own.{noRule}
-use Rattle.book.proofs.Known.{book-known}
 use Rattle.book.proofs.Charts.{column-at}
 use Rattle.suspects.proofs.Chains.{lt-or-le}
 use Rattle.review.specs.Known.{found, Known, HasBook}

@@ -14,10 +14,10 @@ use Rattle.model.specs.Standing.{RuleWritten}
 use Rattle.model.proofs.Success.{behind, fine-same}
 use Rattle.model.proofs.Placed.{readable-read}
 use Rattle.model.proofs.RuleOwn.{rule-own}
+use Rattle.model.proofs.BookKnown.{Numbered, KnownBook, book-known}
 use Rattle.book.specs.Contents.{contentsOf}
 use Rattle.book.specs.Own.{noRule}
 use Rattle.book.specs.declared.Contents.{Contents}
-use Rattle.book.proofs.Known.{Numbered, KnownBook, book-known}
 use Rattle.book.proofs.Charts.{contents-owned}
 use Rattle.rules.specs.Rules.{Bounds, told, boundsIn, ruleBounds, bytesIn}
 use Rattle.rules.specs.declared.RuleAnswer.{RuleAnswer}

@@ -7,17 +7,16 @@ use native.Mathlib.Nat.{add-zero}
 use lib.Dec.{leb}
 use lib.ListN.{length, length-append}
 use borrow.Author.Tests.{leb-true}
 use Rattle.model.specs.Limits.{bookBytes, chainsMost, rulesMost, levelsMost}
 use Rattle.model.specs.Reader.{Stand, Read, got, refused, each}
 use Rattle.model.specs.Number.{number}
 use Rattle.model.specs.Tree.{placeOf, Rule, Book, Every, allRules, rulesOf}
 use Rattle.model.specs.Book.{within, expression, actionIn, rule, ruleCount, chain, wholeBook, bookOf, end, start}
 use Rattle.model.specs.Standing.{Stands, RuleStands}
-use Rattle.model.proofs.BookRead.{ActionFine}
+use Rattle.model.proofs.BookRead.{ActionFine, ExpressionRead, action-got, expression-got}
 use Rattle.model.proofs.EveryRule.{every-append}
 use Rattle.model.proofs.Standing.{expression-stands}
-use Rattle.model.proofs.Success.{Got, got-after, got-as, got-when, end-got}
-use Rattle.book.proofs.Onward.{Onward, both, each-read, number-moved, within-moved, expression-onward, action-moved}
+use Rattle.model.proofs.Success.{Got, got-after, got-as, got-when, got-both, Onward, both, number-got, within-got, end-got, each-got}
 
 -- a rule's own bytes run from its place to its end, and its expression stands in them, last
 pub record KnownRule (s : List ℕ) (chains : ℕ) (r : Rule) : Type 0 where
@@ -50,27 +49,23 @@ pub record OneRule (s : List ℕ) (chains i : ℕ) (st : Stand) (r : Rule) (st�
 
 pub rule-known : (s : List ℕ) (chains i : ℕ) (st : Stand) → Got (rule chains i s st) (OneRule s chains i st)
 rule-known s chains i st =
-    got-after (actionIn chains s st) _ _ (action-moved chains s st) (λ a st₁ p.
-    got-after (expression levelsMost s st₁) _ _ (expression-both s st₁) (λ e st₂ q. record {
+    got-after (actionIn chains s st) _ _ (action-got chains s st) (λ a st₁ p.
+    got-after (expression levelsMost s st₁) _ _ (expression-known s st₁) (λ e st₂ q. record {
       number = refl;
       place = refl;
       next = refl;
-      onward = both (p .1 .onward) (q .0);
+      onward = both (p .1 .onward) (q .0 .onward);
       known = record {
         action = p .0;
-        before = omega (arith, p .1 .onward .on, q .1 .0);
-        stands = subst (λ at. Stands s at e (st₂ .at)) (sym (q .1 .0)) (q .1);
-        past = omega (arith, q .0 .on, q .1 .0);
-        inside = q .0 .inside;
+        before = omega (arith, p .1 .onward .on, q .0 .place);
+        stands = subst (λ at. Stands s at e (st₂ .at)) (sym (q .0 .place)) (q .1);
+        past = omega (arith, q .0 .onward .on, q .0 .place);
+        inside = q .0 .onward .inside;
       };
     }))
   where
-    both-got : {A : Type 0} (P Q : A → Stand → Type 0) (m : Read A) → Got m P → Got m Q → Got m (λ a st. P a st × Q a st)
-    both-got P Q (got a st) h k = (h, k)
-    both-got P Q (refused n p) h k = tt
-
-    expression-both : (s : List ℕ) (st : Stand) → Got (expression levelsMost s st) (λ e st′. Onward s st st′ × Stands s (st .at) e (st′ .at))
-    expression-both s st = both-got _ _ (expression levelsMost s st) (expression-onward levelsMost s st) (expression-stands levelsMost s st)
+    expression-known : (s : List ℕ) (st : Stand) → Got (expression levelsMost s st) (λ e st′. ExpressionRead s st e st′ × Stands s (st .at) e (st′ .at))
+    expression-known s st = got-both _ _ (expression levelsMost s st) (expression-got levelsMost s st) (expression-stands levelsMost s st)
 
 -- rules one after the other
 pub record SomeRules (s : List ℕ) (chains i : ℕ) (st : Stand) (rs : List Rule) (st′ : Stand) : Type 0 where
@@ -81,7 +76,7 @@ pub record SomeRules (s : List ℕ) (chains i : ℕ) (st : Stand) (rs : List Rul
 
 pub rules-known : (s : List ℕ) (chains n i : ℕ) (st : Stand) → st .at ≤ length s → Got (each n i (rule chains) s st) (λ rs st′. SomeRules s chains i st rs st′ × (length rs ≡ n))
 rules-known s chains n i st h =
-    each-read s (λ st. st .at ≤ length s) (OneRule s chains) (SomeRules s chains)
+    each-got s (λ st. st .at ≤ length s) (OneRule s chains) (SomeRules s chains)
     (λ i st st′ r k p. p .onward .inside)
     (λ i st k. record { numbered = tt; known = tt; rules = refl; inside = k })
     (λ i st st₁ st₂ r rs p q. record { numbered = (p .number, q .numbered); known = (p .known, q .known); rules = omega arith; inside = q .inside })
@@ -99,7 +94,7 @@ record SomeChains (s : List ℕ) (chains : ℕ) (st : Stand) (rs : List Rule) (s
   pub fit : Fit s st′
 
 pub count-known : (s : List ℕ) (st : Stand) → Got (ruleCount s st) (λ n st′. (st′ .rules ≡ st .rules + n) × Fit s st′)
-count-known s st = got-after (number s st) _ _ (number-moved s st) (λ n st₁ p.
+count-known s st = got-after (number s st) _ _ (number-got s st) (λ n st₁ p.
     got-when (leb (st₁ .rules + n) rulesMost) _ _ _ (λ e. (omega (arith, p .onward .rules), record { room = leb-true (st₁ .rules + n) rulesMost e; inside = p .onward .inside })) (λ e. tt))
 
 chain-known : (s : List ℕ) (chains : ℕ) (st : Stand) → Fit s st → Got (chain chains s st) (SomeChains s chains st)
@@ -122,7 +117,7 @@ chains-more s chains st st₁ st₂ a b p q = record {
 
 chains-known : (s : List ℕ) (chains n : ℕ) (st : Stand) → Fit s st → Got (each n zero (λ i. chain chains) s st) (λ cs st′. SomeChains s chains st (allRules cs) st′ × (length cs ≡ n))
 chains-known s chains n st h =
-    each-read s (Fit s) (λ i. SomeChains s chains) (λ i st cs st′. SomeChains s chains st (allRules cs) st′)
+    each-got s (Fit s) (λ i. SomeChains s chains) (λ i st cs st′. SomeChains s chains st (allRules cs) st′)
     (λ i st st′ c k p. p .fit)
     (λ i st k. record { numbered = tt; known = tt; rules = omega arith; fit = k })
     (λ i st st₁ st₂ c cs p q. chains-more s chains st st₁ st₂ c (allRules cs) p q)
@@ -141,9 +136,9 @@ pub record KnownBook (s : List ℕ) (b : Book) : Type 0 where
 
 whole-known : (s : List ℕ) → length s ≤ bookBytes → Got (wholeBook s start) (λ b st′. KnownBook s b)
 whole-known s short =
-    got-after (within 1 1 s start) _ _ (within-moved 1 1 s start) (λ edition st₁ p.
-    got-after (within 1 chainsMost s st₁) _ _ (within-moved 1 chainsMost s st₁) (λ n st₂ q.
-    got-after (within 0 1 s st₂) _ _ (within-moved 0 1 s st₂) (λ policy st₃ r.
+    got-after (within 1 1 s start) _ _ (within-got 1 1 s start) (λ edition st₁ p.
+    got-after (within 1 chainsMost s st₁) _ _ (within-got 1 chainsMost s st₁) (λ n st₂ q.
+    got-after (within 0 1 s st₂) _ _ (within-got 0 1 s st₂) (λ policy st₃ r.
     got-after (each n zero (λ i. chain n) s st₃) _ _ (chains-known s n n st₃ (record { room = omega (arith, p .2 .onward .rules, q .2 .onward .rules, r .2 .onward .rules); inside = r .2 .onward .inside })) (λ chains st₄ t.
     got-after (end s st₄) _ _ (end-got s st₄) (λ e st₅ u. record {
       short = short;
