@@ -7,6 +7,7 @@ use native.Mathlib.Omega.{arith}
 use lib.ListN.{length}
 use Rattle.model.specs.Reader.{Stand, Read, got, refused, Reader, after, each}
 use Rattle.model.proofs.Success.{Got, got-after}
+use Rattle.model.proofs.Placed.{any-got}
 
 pub after-got : {A B : Type 0} (m : Read A) (k : A → Stand → Read B) (a : A) (st : Stand) → m ≡ got a st → after m k ≡ k a st
 after-got m k a st e = ap (λ m. after m k) e
@@ -44,13 +45,9 @@ module _ {A : Type 0} (r : ℕ → Reader A) (s : List ℕ) (last i : ℕ) (st :
   each-more h a st₁ e new = ap (behind new) (each-step h ∙ after-got (r i s st) _ a st₁ e) ∙ behind-more new a (each (last - (i + 1)) (i + 1) r s st₁)
 
 -- as many as were asked for
-anything : {A : Type 0} (m : Read A) → Got m (λ a st. Unit {0})
-anything (got a st) = tt
-anything (refused n p) = tt
-
 pub each-sized : {A : Type 0} (r : ℕ → Reader A) (s : List ℕ) (n i : ℕ) (st : Stand) → Got (each n i r s st) (λ l st′. length l ≡ n)
 unfolding each
 each-sized r s zero i st = refl
 each-sized r s (suc n) i st =
-    got-after (r i s st) _ _ (anything (r i s st)) (λ a st₁ p.
+    got-after (r i s st) _ _ (any-got (r i s st)) (λ a st₁ p.
     got-after (each n (suc i) r s st₁) _ _ (each-sized r s n (suc i) st₁) (λ l st₂ q. ap suc q))

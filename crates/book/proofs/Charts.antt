@@ -9,12 +9,13 @@ use lib.ListN.{length, getD, length-append, List·getD-map}
 use lib.Seq.{getD-append-add}
 use Rattle.model.specs.Limits.{chainsMost, rulesMost}
 use Rattle.model.specs.Reader.{Stand, got}
-use Rattle.model.specs.Tree.{placeOf, Rule, Book, Action, Every, allRules, rulesOf}
+use Rattle.model.specs.Tree.{placeOf, Rule, Book, Action, allRules, rulesOf}
 use Rattle.model.specs.Tree.Action.{accept, drop, reject, log, empty, return, call}
 use Rattle.model.specs.Book.{bookOf}
 use Rattle.model.specs.Calls.{chainOf}
 use Rattle.model.specs.Filling.{padded}
 use Rattle.model.proofs.BookRead.{ActionFine}
+use Rattle.model.proofs.EveryRule.{every-at}
 use Rattle.model.proofs.Filling.{padded-at}
 use Rattle.model.proofs.BookKnown.{KnownRule, KnownBook, Numbered, numbered-last, book-known}
 use Rattle.book.specs.Contents.{actionNumber, targetNumber, starts, contentsOf, actionOf, Noted, NotedAll, Charted}
@@ -23,11 +24,6 @@ use Rattle.book.specs.Own.{noRule, ruleAt, Owned}
 -- what an array says of rule i
 pub column-at : (f : Rule → ℕ) → f noRule ≡ 0 → (rs : List Rule) (i : ℕ) → getD (padded rulesMost (map f rs)) i 0 ≡ f (getD rs i noRule)
 column-at f z rs i = padded-at rulesMost (map f rs) i ∙ ap (λ d. getD (map f rs) i d) (sym z) ∙ List·getD-map f rs i noRule
-
-pub every-at : {A : Type 0} (P : A → Type 0) (l : List A) (i : ℕ) (d : A) → i < length l → Every P l → P (getD l i d)
-every-at P [] i d h k = absurd (omega arith)
-every-at P (x ∷ l) zero d h k = k .0
-every-at P (x ∷ l) (suc i) d h k = every-at P l i d (omega arith) (k .1)
 
 -- the first rules of the chains
 starts-first : (i : ℕ) (cs : List (List Rule)) → getD (starts i cs) 0 0 ≡ i

@@ -1,19 +1,18 @@
 -- Conditions one after the other: those so far are seen, and the rest are written where reading goes on. Assumes nothing.
-use Prim.Native.Nat.{ℕ, _+_, _-_, _*_, _≤_, _<_, _/_, _%_}
-use mathlib.Core.Bool.{Bool, true, false}
+use Prim.Native.Nat.{ℕ, _+_, _-_, _≤_, _<_, _/_, _%_}
 use mathlib.Core.List.{List, [], _∷_}
 use mathlib.Core.Path.{_≡_, refl, sym, _∙_, ap, subst}
 use native.Mathlib.Omega.{arith}
 use native.Mathlib.Numerals.{add-one}
 use lib.Dec.{eqb}
 use lib.ListN.{length, getD}
-use Rattle.model.specs.Answer.{when}
 use Rattle.model.specs.Tree.{placeOf}
 use Rattle.model.specs.Ternary.{Tri, and₃, yes}
 use Rattle.model.specs.Matching.{value}
 use Rattle.model.specs.Standing.{Stands, Standing}
 use Rattle.model.specs.Unfolding.{Condition}
 use Rattle.model.specs.Verdict.{conditionValue, conditionsValue}
+use Rattle.model.proofs.ReadBack.{half, odd}
 use Rattle.matching.specs.declared.Asking.{Asking}
 use Rattle.matching.specs.declared.Held.{Held}
 use Rattle.matching.specs.declared.Seen.{Seen}
@@ -30,23 +29,15 @@ pub plain-sees : (a : Asking) (x : ℕ) (s answers : List ℕ) (word : ℕ) (r :
     → SeesCondition a x s answers word (record { value = r .value; until = r .until })
 plain-sees a x s answers word r h f e next b = let z : word % 2 ≡ 0 = omega arith in rw z (f e next b .0)
 
--- the word of a condition
-word-place : (n : ℕ) (b : Bool) → (2 * n + when b 1 0) / 2 ≡ n
-word-place n true = omega arith
-word-place n false = omega arith
-
-word-mark : (n : ℕ) (b : Bool) → eqb ((2 * n + when b 1 0) % 2) 1 ≡ b
-word-mark n true = let z : (2 * n + 1) % 2 ≡ 1 = omega arith in rw z
-word-mark n false = let z : (2 * n + 0) % 2 ≡ 0 = omega arith in rw z
-
+-- the word of a condition says its place and its mark
 noted-stands : (s words : List ℕ) (at : ℕ) (c : Condition) (w : ℕ) → w ≡ getD words at 0 → (n : Noted s words at c) → Stands s (w / 2) (c .match) (n .next)
 noted-stands s words at c w e n =
-    subst (λ p. Stands s p (c .match) (n .next)) (sym (ap (λ v. v / 2) (e ∙ n .word) ∙ word-place (placeOf (c .match)) (c .negated))) (n .stands)
+    subst (λ p. Stands s p (c .match) (n .next)) (sym (ap (λ v. v / 2) (e ∙ n .word) ∙ half (placeOf (c .match)) (c .negated))) (n .stands)
 
 noted-sees : (a : Asking) (x : ℕ) (s answers words : List ℕ) (at : ℕ) (c : Condition) (w : ℕ) → w ≡ getD words at 0 → Noted s words at c → (r : Held) → SeesCondition a x s answers w r
     → Sees (λ y. conditionValue (value (sight a answers y)) c) x (r .value) (r .until)
 noted-sees a x s answers words at c w e n r f =
-    let m : eqb (w % 2) 1 ≡ c .negated = ap (λ v. eqb (v % 2) 1) (e ∙ n .word) ∙ word-mark (placeOf (c .match)) (c .negated) in
+    let m : eqb (w % 2) 1 ≡ c .negated = ap (λ v. eqb (v % 2) 1) (e ∙ n .word) ∙ odd (placeOf (c .match)) (c .negated) in
     subst (λ b. Sees (λ y. conditionValue (value (sight a answers y)) (record { negated = b; match = c .match })) x (r .value) (r .until)) m
     (f (c .match) (n .next) (noted-stands s words at c w e n))
 

@@ -8,7 +8,7 @@ use lib.Dec.{leb}
 use lib.ListN.{length, length-append}
 use borrow.Author.Tests.{leb-true}
 use Rattle.model.specs.Limits.{bookBytes, chainsMost, rulesMost, levelsMost}
-use Rattle.model.specs.Reader.{Stand, Read, got, refused, each}
+use Rattle.model.specs.Reader.{Stand, got, each}
 use Rattle.model.specs.Number.{number}
 use Rattle.model.specs.Tree.{placeOf, Rule, Book, Every, allRules, rulesOf}
 use Rattle.model.specs.Book.{within, expression, actionIn, rule, ruleCount, chain, wholeBook, bookOf, end, start}

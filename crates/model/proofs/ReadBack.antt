@@ -61,11 +61,11 @@ list-entries b h = every-of-list (Found (rulesOf b)) (Entry b)
     (places-find (h .places .0) (rulesOf b) (h .places .1) (h .places .2)) (record { action = h .policy; matches = tt })
 
 -- A RULE IS READ BACK OUT OF ITS WORDS
-half : (at : ℕ) (n : Bool) → (2 * at + when n 1 0) / 2 ≡ at
+pub half : (at : ℕ) (n : Bool) → (2 * at + when n 1 0) / 2 ≡ at
 half at true = omega arith
 half at false = omega arith
 
-odd : (at : ℕ) (n : Bool) → eqb ((2 * at + when n 1 0) % 2) 1 ≡ n
+pub odd : (at : ℕ) (n : Bool) → eqb ((2 * at + when n 1 0) % 2) 1 ≡ n
 odd at true = eq-eqb ((2 * at + 1) % 2) 1 (omega arith)
 odd at false = ne-eqb ((2 * at + 0) % 2) 1 (λ e. omega arith)
 

@@ -4,27 +4,19 @@ use native.Mathlib.Omega.{arith}
 use native.Mathlib.Nat.{add-zero}
 use native.Mathlib.Numerals.{add-one}
 use mathlib.Core.Path.{_≡_, refl, ap, ap₂, sym, subst, _∙_}
-use mathlib.Core.List.{List, [], _∷_, _++_, append-assoc, append-nil}
+use mathlib.Core.List.{List, [], _∷_, _++_, append-nil}
 use lib.ListN.{length, getD}
 use Rattle.model.specs.Tree.{Rule, Book, Action, placeOf}
 use Rattle.model.specs.Tree.Action.{accept, drop, reject, log, empty, return, call}
 use Rattle.model.specs.Calls.{chainOf}
 use Rattle.model.specs.Unfolding.{ListRule, Context, holds, fails, entered, past, unfoldRules, unfoldChain, listOf, conditionWord, conditionWords, wordsOf}
+use Rattle.model.proofs.ReadBack.{words-append, length-words}
 use Rattle.book.specs.Contents.{actionOf, Noted, NotedAll, Charted}
 use Rattle.unfolding.specs.Emitted.{entry, ruleWords, after, ownAt, actionAt, rulesWords, chainWords}
-
-pub words-append : (xs ys : List ListRule) → wordsOf (xs ++ ys) ≡ wordsOf xs ++ wordsOf ys
-unfolding wordsOf
-words-append [] ys = refl
-words-append (r ∷ xs) ys = ap (λ l. r .action ∷ r .number ∷ length (r .conditions) ∷ l) (ap (λ l. conditionWords (r .conditions) ++ l) (words-append xs ys) ∙ sym (append-assoc (conditionWords (r .conditions)) (wordsOf xs) (wordsOf ys)))
 
 conditions-append : (cs ds : Context) → conditionWords (cs ++ ds) ≡ conditionWords cs ++ conditionWords ds
 conditions-append [] ds = refl
 conditions-append (c ∷ cs) ds = ap (λ l. conditionWord c ∷ l) (conditions-append cs ds)
-
-conditions-length : (cs : Context) → length (conditionWords cs) ≡ length cs
-conditions-length [] = refl
-conditions-length (c ∷ cs) = ap suc (conditions-length cs)
 
 -- the word of a rule's own match
 abbrev ownWord : Rule → ℕ
@@ -35,7 +27,7 @@ with-own cs r = conditions-append cs (holds r) ∙ ap (λ k. conditionWords cs +
 
 entry-words : (a n : ℕ) (cs : Context) → entry a n (conditionWords cs) ≡ wordsOf (record { action = a; number = n; conditions = cs } ∷ [])
 unfolding wordsOf
-entry-words a n cs = ap₂ (λ k l. a ∷ n ∷ k ∷ l) (conditions-length cs) (sym (append-nil (conditionWords cs)))
+entry-words a n cs = ap₂ (λ k l. a ∷ n ∷ k ∷ l) (length-words cs) (sym (append-nil (conditionWords cs)))
 
 decides : (a : ℕ) (cs : Context) (r : Rule) → entry a (r .number) (conditionWords cs ++ (ownWord r ∷ [])) ≡ wordsOf (record { action = a; number = r .number; conditions = cs ++ holds r } ∷ [])
 decides a cs r = ap (entry a (r .number)) (sym (with-own cs r)) ∙ entry-words a (r .number) (cs ++ holds r)

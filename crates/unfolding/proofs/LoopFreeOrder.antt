@@ -11,6 +11,7 @@ use Rattle.model.specs.Limits.{bookBytes}
 use Rattle.model.specs.Tree.{Rule, Book, placeOf, Every}
 use Rattle.model.specs.Tree.Action.{call}
 use Rattle.model.specs.Calls.{chainOf, reaches, CallIn, here, later, direct, through, LoopFree}
+use Rattle.model.proofs.EveryRule.{every-at}
 use Rattle.model.proofs.LoopsExact.{reaches-exactly}
 use Rattle.book.specs.Contents.{actionOf, rulesIn, NotedAll, Charted}
 use Rattle.unfolding.specs.Walking.{Ordered}
@@ -33,11 +34,6 @@ noted-near n action target expression i (r ∷ rs) q h j le lt = elim (ℕ-discr
   | yes s ↦ omega (arith, q .0 .match, h .0, ap (λ k. getD expression k 0) s)
   | no ne ↦ noted-near n action target expression (suc i) rs (q .1) (h .1) j (omega arith) (omega arith)
 ]
-
-every-at : (P : List Rule → Type 0) (cs : List (List Rule)) → Every P cs → (c : ℕ) → c < length cs → P (getD cs c [])
-every-at P [] h c lt = absurd (omega arith)
-every-at P (x ∷ cs) h zero lt = h .0
-every-at P (x ∷ cs) h (suc c) lt = every-at P cs (h .1) c (omega arith)
 
 -- the walk can begin at the entry
 pub record FromEntry (first action target expression : List ℕ) (chains rules : ℕ) : Type 0 where
@@ -84,7 +80,7 @@ module _ (b : Book) (first action target expression : List ℕ) (chains rules : 
     chains = chains;
     rules = rules;
     shape = is .shape;
-    near = λ c i lt from upto. noted-near bookBytes action target expression (getD first c 0) (chainOf b c) (is .noted c lt) (every-at _ (b .chains) near c (omega (arith, is .count))) i from (omega (arith, is .sizes c lt));
+    near = λ c i lt from upto. noted-near bookBytes action target expression (getD first c 0) (chainOf b c) (is .noted c lt) (every-at _ (b .chains) c [] (omega (arith, is .count)) near) i from (omega (arith, is .sizes c lt));
     rank = over (λ c. 1);
     under = over (rulesIn first);
     falls = λ c i lt from upto e. omega (arith, over-falls (λ c. 1) c (getD target i 0) (known c i lt upto e) (calls c i lt from upto e));

@@ -15,6 +15,7 @@ use Rattle.model.specs.Standing.{Stands, Standing, RuleStands}
 use Rattle.model.specs.Matching.{value, exact, matches}
 use Rattle.model.specs.Chains as model
 use Rattle.model.specs.Chains.{act, orElse, walkRules, walk, chainVerdict, settle}
+use Rattle.model.proofs.EveryRule.{every-at}
 use Rattle.book.specs.Contents.{Noted, NotedAll}
 use Rattle.matching.specs.declared.Asking.{Asking}
 use Rattle.matching.specs.declared.Seen.{Seen}
@@ -64,17 +65,12 @@ pub record Left (s action target expression : List ℕ) (run : ℕ → model.Out
   pub count : i + length rest ≡ end
   pub same : walkRules run m rest ≡ walkRules run m chain
 
-every-at : (P : List Rule → Type 0) (cs : List (List Rule)) (c : ℕ) → P [] → Every P cs → P (getD cs c [])
-every-at P [] c none h = none
-every-at P (r ∷ cs) zero none h = h .0
-every-at P (r ∷ cs) (suc c) none h = every-at P cs c none (h .1)
-
 module _ {s first action target expression : List ℕ} {b : Book} (k : Kept s first action target expression b) (c : ℕ) (lt : HasChain c b) where
   pub left-all : (run : ℕ → model.Outcome) (m : Expr → Bool) → Left s action target expression run m (chainOf b c) (getD first (c + 1) 0) (getD first c 0)
   left-all run m = record {
     rest = chainOf b c;
     noted = k .charted .noted c lt;
-    stands = every-at (Every (RuleStands s)) (b .chains) c tt (k .stands);
+    stands = every-at (Every (RuleStands s)) (b .chains) c [] lt (k .stands);
     count = omega (arith, k .charted .sizes c lt, k .charted .shape .rising c lt);
     same = refl;
   }
