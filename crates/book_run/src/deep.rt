@@ -13,23 +13,33 @@ fn negated(name: &[u8], negations: usize, rest: &[u8]) {
     show_part_from(name, &b, at, 0);
 }
 
-// A level is judged before its kind is read; a count of operands goes before the level of the first of them.
-pub fn levels() {
+// A level is judged before its kind is read.
+fn levels() {
     negated(b"level 16", 15, b"\x00");
     negated(b"level 16, kind 3", 15, b"\x03\x00\x09");
     negated(b"level 16, kind missing", 15, b"");
     negated(b"level 16, kind 9", 15, b"\x09");
     negated(b"level 16, kind not shortest", 15, b"\x80\x00");
+}
+
+fn past_levels() {
     negated(b"level 17", 16, b"\x00");
     negated(b"level 17 where the bytes end", 16, b"");
     negated(b"level 17, kind 9", 16, b"\x09");
     negated(b"level 17, kind not shortest", 16, b"\x80\x00");
     negated(b"level 17, kind cut", 16, b"\x80");
     negated(b"level 18", 17, b"\x00");
+}
+
+// A count of operands goes before the level of the first of them.
+fn levels_of_operands() {
     negated(b"kind 2 at level 15", 14, b"\x02\x02\x00\x00");
     negated(b"kind 2 at level 16", 15, b"\x02\x02\x00\x00");
     negated(b"kind 2 at level 16, operands missing", 15, b"\x02\x02");
     negated(b"kind 2 at level 16, count missing", 15, b"\x02");
+}
+
+fn counts_of_operands() {
     negated(
         b"kind 2 at level 16, count not shortest",
         15,
@@ -70,7 +80,7 @@ fn beside(name: &[u8], first: usize, second: usize) {
     show_part_from(name, &b, at, 0);
 }
 
-pub fn operand_levels() {
+fn operand_levels() {
     last_operands(b"15 conjunctions by their last operands", 15);
     last_operands(b"16 conjunctions by their last operands", 16);
     first_operands(b"15 conjunctions by their first operands", 15);
@@ -95,7 +105,12 @@ fn after_sources(name: &[u8], rules: &[u8], source: &[u8], rest: &[u8]) {
     show_part_from(name, &b, at, 31);
 }
 
-pub fn sources() {
+// 512 kinds 3, and a rule more.
+fn past(name: &[u8], rule: &[u8]) {
+    after_sources(name, b"\x21", b"\x03\x00\x09", rule);
+}
+
+fn sources() {
     after_sources(b"512 kinds 3", b"\x20", b"\x03\x00\x09", b"");
     after_sources(b"512 kinds 3 reversed", b"\x20", b"\x03\x09\x00", b"");
     after_sources(
@@ -104,18 +119,11 @@ pub fn sources() {
         b"\x05\x00\x09",
         b"\x00\x03\x00\x09",
     );
-    after_sources(
-        b"512 kinds 3 and 1 kind 5",
-        b"\x21",
-        b"\x03\x00\x09",
-        b"\x00\x05\x00\x09",
-    );
-    after_sources(
-        b"513 kinds 3",
-        b"\x21",
-        b"\x03\x00\x09",
-        b"\x00\x03\x00\x09",
-    );
+}
+
+fn more_sources() {
+    past(b"512 kinds 3 and 1 kind 5", b"\x00\x05\x00\x09");
+    past(b"513 kinds 3", b"\x00\x03\x00\x09");
     after_sources(
         b"513 kinds 3 reversed",
         b"\x21",
@@ -124,48 +132,26 @@ pub fn sources() {
     );
 }
 
-// Kind 9 goes before 7, and level 17 before both; 7 goes before the low.
-pub fn past_sources() {
-    after_sources(
-        b"513th kind 3, low missing",
-        b"\x21",
-        b"\x03\x00\x09",
-        b"\x00\x03",
-    );
-    after_sources(
-        b"513th kind 3, low not shortest",
-        b"\x21",
-        b"\x03\x00\x09",
-        b"\x00\x03\x80\x00",
-    );
-    after_sources(
-        b"513th kind 3 negated",
-        b"\x21",
-        b"\x03\x00\x09",
-        b"\x00\x01\x03\x00\x09",
-    );
-    after_sources(
+// 7 goes before the low.
+fn past_sources() {
+    past(b"513th kind 3, low missing", b"\x00\x03");
+    past(b"513th kind 3, low not shortest", b"\x00\x03\x80\x00");
+    past(b"513th kind 3 negated", b"\x00\x01\x03\x00\x09");
+    past(
         b"513th kind 3 as second operand",
-        b"\x21",
-        b"\x03\x00\x09",
         b"\x00\x02\x02\x00\x03\x00\x09",
     );
-    after_sources(
-        b"512 kinds 3, then kind 9",
-        b"\x21",
-        b"\x03\x00\x09",
-        b"\x00\x09",
-    );
-    after_sources(
+}
+
+// Kind 9 goes before 7, and level 17 before both.
+fn before_sources() {
+    past(b"512 kinds 3, then kind 9", b"\x00\x09");
+    past(
         b"513th kind 3 at level 16",
-        b"\x21",
-        b"\x03\x00\x09",
         b"\x00\x01\x01\x01\x01\x01\x01\x01\x01\x01\x01\x01\x01\x01\x01\x01\x03\x00\x09",
     );
-    after_sources(
+    past(
         b"513th kind 3 at level 17",
-        b"\x21",
-        b"\x03\x00\x09",
         b"\x00\x01\x01\x01\x01\x01\x01\x01\x01\x01\x01\x01\x01\x01\x01\x01\x01\x03\x00\x09",
     );
 }
@@ -184,7 +170,20 @@ fn chains_of_sources(name: &[u8], rest: &[u8]) {
     show_part(name, &b, at);
 }
 
-pub fn sources_in_chains() {
+fn sources_in_chains() {
     chains_of_sources(b"512 kinds 3 in two chains", b"\x00");
     chains_of_sources(b"513th kind 3 in a third", b"\x01\x00\x03\x00\x09");
+}
+
+pub fn all() {
+    levels();
+    past_levels();
+    levels_of_operands();
+    counts_of_operands();
+    operand_levels();
+    sources();
+    more_sources();
+    past_sources();
+    before_sources();
+    sources_in_chains();
 }

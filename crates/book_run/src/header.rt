@@ -2,23 +2,35 @@
 use crate::show::show;
 use crate::show::show_from;
 
-// How a number is written, shown on the edition and on a field.
-pub fn numbers() {
+// How a number is written, shown on the edition; below, on fields.
+fn numbers() {
     show(b"C9, empty", b"");
     show(b"80 at the end", b"\x80");
     show(b"80 80 80 80 at the end", b"\x80\x80\x80\x80");
     show(b"80 80 80 80 80", b"\x80\x80\x80\x80\x80");
     show(b"80 80 80 80 00", b"\x80\x80\x80\x80\x00");
+}
+
+fn short_writings() {
     show(b"80 00 as edition", b"\x80\x00");
     show(b"82 00 as edition", b"\x82\x00");
     show(b"81 80 00 as edition", b"\x81\x80\x00");
     show(b"80 01 as edition", b"\x80\x01");
+}
+
+fn large_numbers() {
     show(b"the largest as edition", b"\xFF\xFF\xFF\xFF\x0F");
     show(b"fifth byte 16 as edition", b"\xFF\xFF\xFF\xFF\x10");
     show(b"fifth byte 8F as edition", b"\xFF\xFF\xFF\xFF\x8F\x00");
+}
+
+fn numbers_in_fields() {
     show_from(b"protocol 80 01", b"\x01\x01\x00\x01\x00\x06\x80\x01", 0);
     show(b"protocol 80 00", b"\x01\x01\x00\x01\x00\x06\x80\x00");
     show(b"protocol cut", b"\x01\x01\x00\x01\x00\x06\x80");
+}
+
+fn numbers_in_ranges() {
     show(
         b"low with fifth byte 16",
         b"\x01\x01\x00\x01\x00\x03\xFF\xFF\xFF\xFF\x10\x00",
@@ -31,16 +43,22 @@ pub fn numbers() {
     show(b"high missing", b"\x01\x01\x00\x01\x00\x03\x00");
 }
 
-pub fn headers() {
+fn editions() {
     show(b"edition 0", b"\x00\x01\x00\x00");
     show(b"edition 1 alone", b"\x01");
     show(b"02 alone", b"\x02");
     show(b"edition 2", b"\x02\x01\x00\x00");
+}
+
+fn policies() {
     show(b"no chains", b"\x01\x00\x00");
     show_from(b"the smallest, policy 0", b"\x01\x01\x00\x00", 0);
     show_from(b"policy 1", b"\x01\x01\x01\x00", 0);
     show(b"policy 2", b"\x01\x01\x02\x00");
     show(b"policy missing", b"\x01\x01");
+}
+
+fn headers() {
     show(b"65 chains, no more", b"\x01\x41");
     show(b"chains not shortest", b"\x01\x81\x00\x00\x00");
     show(b"count of rules missing", b"\x01\x01\x00");
@@ -50,7 +68,7 @@ pub fn headers() {
 }
 
 // As many counts of rules as there are chains, each 0.
-pub fn chains() {
+fn chains() {
     show_from(
         b"64 chains",
         b"\x01\x40\x00\x00\x00\x00\x00\x00\x00\x00\x00\x00\x00\x00\x00\x00\x00\x00\x00\x00\x00\x00\x00\x00\x00\x00\x00\x00\x00\x00\x00\x00\x00\x00\x00\x00\x00\x00\x00\x00\x00\x00\x00\x00\x00\x00\x00\x00\x00\x00\x00\x00\x00\x00\x00\x00\x00\x00\x00\x00\x00\x00\x00\x00\x00\x00\x00",
@@ -71,7 +89,7 @@ pub fn chains() {
 }
 
 // The books of document 01's cases; the unread match is the last operand.
-pub fn cases() {
+fn cases() {
     show_from(
         b"C1",
         b"\x01\x01\x01\x02\x01\x02\x02\x04\x00\x01\x03\x80\x80\xA0\x85\x0C\xFF\x81\xA0\x85\x0C\x00\x00",
@@ -90,6 +108,9 @@ pub fn cases() {
         b"\x01\x01\x01\x02\x01\x02\x03\x04\x00\x01\x03\x80\x80\xA0\x85\x0C\xFF\x81\xA0\x85\x0C\x08\x00\x00\x00",
         0,
     );
+}
+
+fn cases_with_unread() {
     show_from(
         b"C4",
         b"\x01\x01\x01\x03\x00\x08\x00\x01\x02\x02\x04\x00\x01\x03\x80\x80\xA0\x85\x0C\xFF\x81\xA0\x85\x0C\x00\x00",
@@ -107,8 +128,8 @@ pub fn cases() {
     );
 }
 
-// C7 with an entry that calls and with one that is empty, C8, and the books with returns.
-pub fn more_cases() {
+// C7 with an entry that calls and with one that is empty, and C8.
+fn more_cases() {
     show(
         b"C7",
         b"\x01\x04\x00\x01\x06\x01\x00\x01\x06\x02\x00\x01\x06\x03\x00\x01\x06\x02\x00",
@@ -122,6 +143,9 @@ pub fn more_cases() {
         b"\x01\x02\x01\x01\x06\x01\x08\x00\x02\x01\x00\x00\x00",
         0,
     );
+}
+
+fn returns() {
     show_from(b"return, accept", b"\x01\x01\x01\x02\x05\x00\x00\x00", 0);
     show_from(
         b"accept if unread is not",
@@ -139,4 +163,20 @@ pub fn more_cases() {
         0,
     );
     show_from(b"return, drop", b"\x01\x01\x00\x02\x05\x00\x01\x00", 0);
+}
+
+pub fn all() {
+    numbers();
+    short_writings();
+    large_numbers();
+    numbers_in_fields();
+    numbers_in_ranges();
+    editions();
+    policies();
+    headers();
+    chains();
+    cases();
+    cases_with_unread();
+    more_cases();
+    returns();
 }

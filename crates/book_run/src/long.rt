@@ -15,11 +15,14 @@ fn one_chain(name: &[u8], count: &[u8], rules: usize) {
     show_part_from(name, &b, at, 1022);
 }
 
-pub fn counts() {
+fn counts() {
     one_chain(b"1023 rules", b"\xFF\x07", 1023);
     one_chain(b"1024 rules", b"\x80\x08", 1024);
     one_chain(b"1025 rules", b"\x81\x08", 1025);
     one_chain(b"1025 rules, none of them there", b"\x81\x08", 0);
+}
+
+fn other_counts() {
     one_chain(b"1024 rules, 1023 there", b"\x80\x08", 1023);
     one_chain(b"1024 rules, 1025 there", b"\x80\x08", 1025);
     one_chain(b"count of rules cut", b"\x80", 0);
@@ -37,10 +40,13 @@ fn two_chains(name: &[u8], one: &[u8], rules: usize, other: &[u8], others: usize
     show_part_from(name, &b, at, 1023);
 }
 
-pub fn split_counts() {
+fn split_counts() {
     two_chains(b"1000 and 24 rules", b"\xE8\x07", 1000, b"\x18", 24);
     two_chains(b"1000 and 25 rules", b"\xE8\x07", 1000, b"\x19", 25);
     two_chains(b"1024 and 0 rules", b"\x80\x08", 1024, b"\x00", 0);
+}
+
+fn more_split_counts() {
     two_chains(b"1024 and 1 rules", b"\x80\x08", 1024, b"\x01", 1);
     two_chains(b"0 and 1024 rules", b"\x00", 0, b"\x80\x08", 1024);
     two_chains(b"0 and 1025 rules", b"\x00", 0, b"\x81\x08", 1025);
@@ -62,7 +68,7 @@ fn sixteens(name: &[u8], count: u8, rules: usize) {
     show_part_from(name, &b, at, 1023);
 }
 
-pub fn chains_of_sixteen() {
+fn chains_of_sixteen() {
     sixteens(b"64 chains of 16 rules", 16, 16);
     sixteens(b"64 chains, the last of 17 rules", 17, 17);
     sixteens(b"64 chains of 16 rules, one more there", 16, 17);
@@ -80,7 +86,7 @@ fn longest(b: &mut [u8]) {
     repeat(b, at, b"\x00\x00", 8);
 }
 
-pub fn longest_books() {
+fn longest_books() {
     let mut b = [0u8; 65536];
     longest(&mut b);
     show_part_from(b"65535 bytes", &b, 65535, 365);
@@ -88,11 +94,21 @@ pub fn longest_books() {
     show(b"65536 bytes", &b);
 }
 
-pub fn extra() {
+fn extra() {
     let mut b = [0u8; 65536];
     show_part(b"65535 bytes, edition 0", &b, 65535);
     show(b"65536 bytes, edition 0", &b);
     bytes(&mut b, 0, b"\x01\x01\x00\x00");
     show_part(b"the smallest, then up to 65535 bytes", &b, 65535);
     show(b"the smallest, then up to 65536 bytes", &b);
+}
+
+pub fn all() {
+    counts();
+    other_counts();
+    split_counts();
+    more_split_counts();
+    chains_of_sixteen();
+    longest_books();
+    extra();
 }

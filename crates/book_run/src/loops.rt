@@ -6,7 +6,7 @@ use crate::show::show;
 use crate::show::show_from;
 use crate::show::show_part_from;
 
-pub fn small() {
+fn small() {
     show(
         b"chains 1 and 2 call each other",
         b"\x01\x03\x00\x00\x01\x06\x02\x00\x01\x06\x01\x00",
@@ -23,6 +23,9 @@ pub fn small() {
         b"loops of 2, and of 1 with 3",
         b"\x01\x04\x00\x00\x01\x06\x03\x00\x01\x06\x02\x00\x01\x06\x01\x00",
     );
+}
+
+fn ways() {
     show(
         b"loop by the third rule",
         b"\x01\x02\x00\x00\x03\x00\x00\x01\x00\x06\x01\x00",
@@ -39,8 +42,8 @@ pub fn small() {
     );
 }
 
-// Loops are of the book, not of a packet's way: a match is not looked at, nor who calls. What is read goes first.
-pub fn hidden() {
+// Loops are of the book, not of a packet's way: a match is not looked at, nor who calls.
+fn hidden() {
     show(
         b"loop behind accepts of all",
         b"\x01\x02\x00\x02\x00\x00\x06\x01\x00\x02\x00\x00\x06\x01\x00",
@@ -62,6 +65,10 @@ pub fn hidden() {
         b"loop in two chains that nothing calls",
         b"\x01\x04\x00\x01\x06\x01\x00\x00\x01\x06\x03\x00\x01\x06\x02\x00",
     );
+}
+
+// What is read goes first.
+fn behind() {
     show(
         b"loop and a byte more",
         b"\x01\x02\x00\x00\x01\x06\x01\x00\x00",
@@ -108,7 +115,7 @@ fn falling(name: &[u8], first: &[u8]) {
     show_part_from(name, &b, at, 62);
 }
 
-pub fn rings() {
+fn rises() {
     rising(b"each chain calls the next, the last none", b"\x00");
     rising(
         b"each chain calls the next, the last 1",
@@ -126,6 +133,9 @@ pub fn rings() {
         b"each chain calls the next, the last itself",
         b"\x01\x06\x3F\x00",
     );
+}
+
+fn falls() {
     falling(b"each chain calls the one before, chain 1 none", b"\x00");
     falling(
         b"each chain calls the one before, chain 1 itself",
@@ -135,4 +145,13 @@ pub fn rings() {
         b"each chain calls the one before, chain 1 the last",
         b"\x01\x06\x3F\x00",
     );
+}
+
+pub fn all() {
+    small();
+    ways();
+    hidden();
+    behind();
+    rises();
+    falls();
 }

@@ -6,7 +6,7 @@ use crate::show::show_from;
 use crate::show::show_part;
 use crate::show::show_part_from;
 
-pub fn actions() {
+fn actions() {
     show_from(
         b"each action",
         b"\x01\x02\x00\x07\x00\x00\x01\x00\x02\x00\x03\x00\x04\x00\x05\x00\x06\x01\x00\x00",
@@ -16,6 +16,9 @@ pub fn actions() {
     show(b"action 7 alone", b"\x01\x01\x00\x01\x07");
     show(b"action missing", b"\x01\x01\x00\x01");
     show(b"action not shortest", b"\x01\x01\x00\x01\x80\x00\x00");
+}
+
+fn more_actions() {
     show(b"second action 7", b"\x01\x01\x00\x02\x00\x00\x07");
     show(b"expression missing", b"\x01\x01\x00\x01\x00");
     show(
@@ -25,9 +28,7 @@ pub fn actions() {
     show(b"4294967295 rules", b"\x01\x01\x00\xFF\xFF\xFF\xFF\x0F");
 }
 
-// The called chain is judged before the rule's expression is looked at; a chain that calls itself is in the book.
-pub fn called() {
-    let mut b = [0u8; 71];
+fn called() {
     show_from(
         b"called chain 1 of 2",
         b"\x01\x02\x00\x01\x06\x01\x00\x00",
@@ -40,6 +41,9 @@ pub fn called() {
         b"\x01\x02\x00\x00\x01\x06\x00\x00",
     );
     show(b"called chain 1 of 1", b"\x01\x01\x00\x01\x06\x01\x00");
+}
+
+fn called_numbers() {
     show(
         b"called chain 4294967295",
         b"\x01\x02\x00\x01\x06\xFF\xFF\xFF\xFF\x0F\x00\x00",
@@ -49,6 +53,10 @@ pub fn called() {
         b"called chain not shortest",
         b"\x01\x02\x00\x01\x06\x81\x00\x00\x00",
     );
+}
+
+// The called chain is judged before the rule's expression is looked at; a chain that calls itself is in the book.
+fn bad_called() {
     show(
         b"bad called chain, bad kind",
         b"\x01\x02\x00\x01\x06\x02\x09\x00",
@@ -58,13 +66,17 @@ pub fn called() {
         b"\x01\x02\x00\x01\x06\x02",
     );
     show(b"chain 1 calls itself", b"\x01\x02\x00\x00\x01\x06\x01\x00");
+}
+
+fn called_of_64() {
+    let mut b = [0u8; 71];
     bytes(&mut b, 0, b"\x01\x40\x00\x01\x06\x3F\x00");
     show_part_from(b"called chain 63 of 64", &b, 70, 0);
     bytes(&mut b, 0, b"\x01\x40\x00\x01\x06\x40\x00");
     show_part(b"called chain 64 of 64", &b, 70);
 }
 
-pub fn kinds() {
+fn kinds() {
     show_from(
         b"each kind, its fields at their limits",
         b"\x01\x01\x00\x01\x00\x02\x09\x00\x01\x00\x02\x02\x00\x00\x03\x00\x09\x04\x1F\x05\x00\x09\x06\xFF\x01\x07\x00\xFF\xFF\x03\x08\xFF\x01",
@@ -72,6 +84,9 @@ pub fn kinds() {
     );
     show(b"kind 8", b"\x01\x01\x00\x01\x00\x08\x00");
     show(b"kind 9", b"\x01\x01\x00\x01\x00\x09\x00");
+}
+
+fn bad_kinds() {
     show(b"kind 9 alone", b"\x01\x01\x00\x01\x00\x09");
     show(
         b"kind 9 as an operand",
@@ -86,8 +101,7 @@ pub fn kinds() {
     show(b"negated, then missing", b"\x01\x01\x00\x01\x00\x01");
 }
 
-pub fn operands() {
-    let mut b = [0u8; 24];
+fn operands() {
     show(b"0 operands", b"\x01\x01\x00\x01\x00\x02\x00");
     show(b"1 operand", b"\x01\x01\x00\x01\x00\x02\x01\x00");
     show_from(b"2 operands", b"\x01\x01\x00\x01\x00\x02\x02\x00\x00", 0);
@@ -95,6 +109,9 @@ pub fn operands() {
         b"2 operands, second missing",
         b"\x01\x01\x00\x01\x00\x02\x02\x00",
     );
+}
+
+fn counts_of_operands() {
     show(
         b"2 operands, a third",
         b"\x01\x01\x00\x01\x00\x02\x02\x00\x00\x00",
@@ -104,6 +121,10 @@ pub fn operands() {
         b"count of operands not shortest",
         b"\x01\x01\x00\x01\x00\x02\x82\x00\x00\x00",
     );
+}
+
+fn many_operands() {
+    let mut b = [0u8; 24];
     let next = bytes(&mut b, 0, b"\x01\x01\x00\x01\x00\x02\x10");
     show_part_from(b"16 operands", &b, 23, 0);
     show_part(b"16 operands, the last missing", &b, 22);
@@ -113,11 +134,14 @@ pub fn operands() {
     show_part(b"17 operands, bad kinds", &b, 24);
 }
 
-pub fn fields() {
+fn fields() {
     show(b"port 31", b"\x01\x01\x00\x01\x00\x04\x1F");
     show(b"port 32", b"\x01\x01\x00\x01\x00\x04\x20");
     show(b"port missing", b"\x01\x01\x00\x01\x00\x04");
     show(b"port not shortest", b"\x01\x01\x00\x01\x00\x04\xA0\x00");
+}
+
+fn small_fields() {
     show(b"protocol 255", b"\x01\x01\x00\x01\x00\x06\xFF\x01");
     show(b"protocol 256", b"\x01\x01\x00\x01\x00\x06\x80\x02");
     show(b"protocol missing", b"\x01\x01\x00\x01\x00\x06");
@@ -127,7 +151,7 @@ pub fn fields() {
 }
 
 // A range with low above high is legal: it matches nothing.
-pub fn ranges() {
+fn ranges() {
     show_from(
         b"sources up to the largest",
         b"\x01\x01\x00\x01\x00\x03\xFF\xFF\xFF\xFF\x0F\xFF\xFF\xFF\xFF\x0F",
@@ -156,7 +180,7 @@ pub fn ranges() {
 }
 
 // The low is judged before the high is read.
-pub fn services() {
+fn services() {
     show_from(
         b"port numbers 65535",
         b"\x01\x01\x00\x01\x00\x07\xFF\xFF\x03\xFF\xFF\x03",
@@ -179,4 +203,22 @@ pub fn services() {
         b"\x01\x01\x00\x01\x00\x07\x80\x80\x04\x80\x00",
     );
     show(b"port number high missing", b"\x01\x01\x00\x01\x00\x07\x00");
+}
+
+pub fn all() {
+    actions();
+    more_actions();
+    called();
+    called_numbers();
+    bad_called();
+    called_of_64();
+    kinds();
+    bad_kinds();
+    operands();
+    counts_of_operands();
+    many_operands();
+    fields();
+    small_fields();
+    ranges();
+    services();
 }

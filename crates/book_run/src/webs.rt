@@ -35,7 +35,7 @@ fn web(name: &[u8], entry: &[u8], last: &[u8]) {
     show_part_from(name, &b, at, 1022);
 }
 
-pub fn webs() {
+fn webs() {
     web(
         b"64 chains call many, the entry none",
         b"\x00\x00",
@@ -51,6 +51,9 @@ pub fn webs() {
         b"\x06\x01\x00",
         b"\x00\x00",
     );
+}
+
+fn looping_webs() {
     web(
         b"64 chains call many, the last chain 1",
         b"\x00\x00",
@@ -66,4 +69,9 @@ pub fn webs() {
         b"\x06\x01\x00",
         b"\x06\x3F\x00",
     );
+}
+
+pub fn all() {
+    webs();
+    looping_webs();
 }

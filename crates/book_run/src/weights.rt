@@ -21,67 +21,43 @@ fn nest(name: &[u8], count: u8, more: &[u8], plain: &[u8], rest: &[u8]) {
     show_part(name, &b, at);
 }
 
-pub fn nested() {
-    nest(b"weight 16384", 16, b"", b"\x00\x00", b"\x00");
-    nest(b"weight 16384, logs", 16, b"", b"\x03\x00", b"\x00");
-    nest(b"weight 16384, empties", 16, b"", b"\x04\x00", b"\x00");
-    nest(b"weight 16384, returns", 16, b"", b"\x05\x00", b"\x00");
-    nest(
-        b"weight 16385 by an accept",
-        17,
-        b"\x00\x00",
-        b"\x00\x00",
-        b"\x00",
-    );
-    nest(
-        b"weight 16385 by a drop",
-        17,
-        b"\x01\x00",
-        b"\x00\x00",
-        b"\x00",
-    );
-    nest(
-        b"weight 16385 by a reject",
-        17,
-        b"\x02\x00",
-        b"\x00\x00",
-        b"\x00",
-    );
-    nest(
-        b"weight 16385 by a log",
-        17,
-        b"\x03\x00",
-        b"\x00\x00",
-        b"\x00",
-    );
-    nest(
-        b"weight 16385 by an empty",
-        17,
-        b"\x04\x00",
-        b"\x00\x00",
-        b"\x00",
-    );
-    nest(
-        b"weight 16385 by a return",
-        17,
-        b"\x05\x00",
-        b"\x00\x00",
-        b"\x00",
-    );
-    nest(
-        b"weight 16385 by a call of no rules",
-        17,
-        b"\x06\x03\x00",
-        b"\x00\x00",
-        b"\x00",
-    );
-    nest(
-        b"weight 16385 by a call under never",
-        17,
-        b"\x06\x03\x01\x00",
-        b"\x00\x00",
-        b"\x00",
-    );
+// Chain 2's rules, and no more.
+fn of_plain(name: &[u8], plain: &[u8]) {
+    nest(name, 16, b"", plain, b"\x00");
+}
+
+// A rule more in the entry.
+fn one_more(name: &[u8], more: &[u8]) {
+    nest(name, 17, more, b"\x00\x00", b"\x00");
+}
+
+// The same with chain 3 and what is behind it.
+fn one_more_and(name: &[u8], rest: &[u8]) {
+    nest(name, 17, b"\x00\x00", b"\x00\x00", rest);
+}
+
+fn plains() {
+    of_plain(b"weight 16384", b"\x00\x00");
+    of_plain(b"weight 16384, logs", b"\x03\x00");
+    of_plain(b"weight 16384, empties", b"\x04\x00");
+    of_plain(b"weight 16384, returns", b"\x05\x00");
+}
+
+fn by_deciding() {
+    one_more(b"weight 16385 by an accept", b"\x00\x00");
+    one_more(b"weight 16385 by a drop", b"\x01\x00");
+    one_more(b"weight 16385 by a reject", b"\x02\x00");
+}
+
+fn by_others() {
+    one_more(b"weight 16385 by a log", b"\x03\x00");
+    one_more(b"weight 16385 by an empty", b"\x04\x00");
+    one_more(b"weight 16385 by a return", b"\x05\x00");
+    one_more(b"weight 16385 by a call of no rules", b"\x06\x03\x00");
+    one_more(b"weight 16385 by a call under never", b"\x06\x03\x01\x00");
+}
+
+fn by_chain_3() {
     nest(
         b"weight 16384, more in a chain that nothing calls",
         16,
@@ -89,20 +65,8 @@ pub fn nested() {
         b"\x00\x00",
         b"\x02\x06\x01\x00\x06\x02\x00",
     );
-    nest(
-        b"weight 16385 and a byte more",
-        17,
-        b"\x00\x00",
-        b"\x00\x00",
-        b"\x00\x00",
-    );
-    nest(
-        b"weight 16385 and a loop",
-        17,
-        b"\x00\x00",
-        b"\x00\x00",
-        b"\x01\x06\x03\x00",
-    );
+    one_more_and(b"weight 16385 and a byte more", b"\x00\x00");
+    one_more_and(b"weight 16385 and a loop", b"\x01\x06\x03\x00");
 }
 
 // Each chain but the last, which is empty, calls the next twice, and the entry has more rules. With n chains and m more rules the
@@ -122,11 +86,14 @@ fn doubling(name: &[u8], head: &[u8], last: u8, more: usize) {
     show_part(name, &b, at);
 }
 
-pub fn doubled() {
+fn doubled() {
     doubling(b"weight 2^14", b"\x01\x0E\x00\x04", 13, 2);
     doubling(b"weight 2^14 + 1", b"\x01\x0E\x00\x05", 13, 3);
     doubling(b"weight 2^15", b"\x01\x0F\x00\x04", 14, 2);
     doubling(b"weight 2^16", b"\x01\x10\x00\x04", 15, 2);
+}
+
+fn doubled_to_64() {
     doubling(b"weight 2^32", b"\x01\x20\x00\x04", 31, 2);
     doubling(b"weight 2^32 + 1", b"\x01\x20\x00\x05", 31, 3);
     doubling(b"weight 2^64", b"\x01\x40\x00\x04", 63, 2);
@@ -150,7 +117,7 @@ fn power(name: &[u8], entry: &[u8]) {
     show_part(name, &b, at);
 }
 
-pub fn powers() {
+fn powers() {
     power(b"16^62 in a chain that nothing calls", b"\x00");
     power(
         b"16^62 in a chain that the entry calls",
@@ -166,4 +133,14 @@ pub fn powers() {
         b"\x04\x06\x3D\x00\x06\x3D\x00\x06\x3D\x00\x06\x3D\x00",
     );
     power(b"the entry calls a chain of 69904", b"\x01\x06\x3C\x00");
+}
+
+pub fn all() {
+    plains();
+    by_deciding();
+    by_others();
+    by_chain_3();
+    doubled();
+    doubled_to_64();
+    powers();
 }
