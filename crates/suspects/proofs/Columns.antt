@@ -73,9 +73,6 @@ module _ {most : ℕ} {ss : Spans} {n : ℕ} {low high : List ℕ} (w : Slots mo
   pub low-length : length low ≡ most
   low-length = ap length low-column ∙ length-column lowEnd most ss (w .fits)
 
-  pub high-length : length high ≡ most
-  high-length = ap length high-column ∙ length-column highEnd most ss (w .fits)
-
 pub slots-of : (most : ℕ) (ss : Spans) (n : ℕ) (low high : List ℕ) → length ss ≤ most → n ≡ length ss → low ≡ column lowEnd most ss → high ≡ column highEnd most ss → Slots most ss n low high
 slots-of most ss n low high h k a b = record {
   fits = h;

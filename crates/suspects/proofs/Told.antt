@@ -1,15 +1,15 @@
 -- What a value in its one writing tells: it writes the ranges that it says, and they rise. Assumes nothing.
-use Prim.Native.Nat.{ℕ, zero, suc, _+_, _-_, _≤_}
+use Prim.Native.Nat.{ℕ, suc, _+_, _-_, _≤_}
 use mathlib.Core.Bool.{Bool, true, false, _&&_, true≢false}
 use mathlib.Core.List.{List, [], _∷_, _++_}
 use mathlib.Core.Path.{_≡_, refl, sym, _∙_, ap, ap₂, subst}
 use native.Mathlib.Omega.{arith}
 use lib.Dec.{leb, eqb}
-use lib.ListN.{length, take, drop, getD, replicate, take-append-drop, length-append, length-drop}
-use lib.Seq.{length-take-le, append-snoc, getD-at, drop-cons}
+use lib.ListN.{length, take, drop, replicate, take-append-drop, length-append, length-drop}
+use lib.Seq.{length-take-le, append-snoc, getD-at}
 use borrow.Author.Tests.{leb-true, eqb-true}
 use Rattle.model.specs.Limits.{spansMost}
-use Rattle.model.specs.Spans.{Span, Spans, Rising}
+use Rattle.model.specs.Spans.{Spans, Rising}
 use Rattle.model.specs.Slices.{State, zip, lows, highs, spansIn, rising, zeros, inWriting}
 use Rattle.suspects.specs.Slots.{Slots, Listed}
 
@@ -115,17 +115,3 @@ listed-from a b at h k (s ∷ ss) c d = (
 
 pub slots-listed : (most : ℕ) (ss : Spans) (n : ℕ) (low high : List ℕ) → Slots most ss n low high → Listed low high 0 ss
 slots-listed most ss n low high w = rw (w .low-is, w .high-is) (listed-from [] [] 0 refl refl ss (replicate (most - length ss) 0) (replicate (most - length ss) 0))
-
--- a part of two lists, taken together, is the ranges that stand there
-pub part-listed : (low high : List ℕ) (at count : ℕ) → at + count ≤ length low → at + count ≤ length high → Listed low high at (zip (take count (drop at low)) (take count (drop at high)))
-part-listed low high at zero h k = tt
-part-listed low high at (suc n) h k = rw (drop-cons low at 0 (omega arith), drop-cons high at 0 (omega arith))
-    (record { low-room = omega arith; high-room = omega arith; low-is = refl; high-is = refl }, part-listed low high (suc at) n (omega arith) (omega arith))
-
--- none, and the lowest
-pub slots-empty : (most : ℕ) (ss : Spans) (n : ℕ) (low high : List ℕ) → Slots most ss n low high → n ≡ 0 → ss ≡ []
-slots-empty most [] n low high w e = refl
-slots-empty most (s ∷ ss) n low high w e = absurd (omega (arith, w .count))
-
-pub slots-lowest : (most : ℕ) (s : Span) (ss : Spans) (n : ℕ) (low high : List ℕ) → Slots most (s ∷ ss) n low high → getD low 0 0 ≡ s .low
-slots-lowest most s ss n low high w = slots-listed most (s ∷ ss) n low high w .0 .low-is
