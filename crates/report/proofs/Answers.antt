@@ -27,9 +27,6 @@ module _ (w t : List ℕ) (n : ℕ) (buf : List ℕ) (p : Puts w 0 t n buf) wher
   pub as-long : n ≡ length (take n buf)
   as-long = counted ∙ ap length (sym written)
 
-  pub fits : n ≤ length w
-  fits = omega (arith, p .next, p .fits)
-
   pub short : (text : List ℕ) → length text < n → (Short n ≡ answerOf t (length text)) × (text ≡ textAfter t text)
   unfolding answerOf textAfter
   short text lt =
