@@ -1,17 +1,19 @@
 -- The low ends, or the high ends, of a set's ranges in slots: what a store does. Over any number of slots. Assumes nothing.
-use Prim.Native.Nat.{ℕ, zero, suc, _+_, _-_, _≤_, _<_}
-use mathlib.Core.List.{List, [], _∷_, _++_, map, map-append, append-assoc}
+use Prim.Native.Nat.{ℕ, _+_, _-_, _≤_, _<_}
+use mathlib.Core.List.{List, [], _∷_, _++_, map, map-append}
 use mathlib.Core.Path.{_≡_, refl, sym, _∙_, ap, ap₂}
 use native.Mathlib.Omega.{arith}
-use lib.ListN.{length, getD, set, replicate, length-append, length-replicate, length-map}
-use lib.Seq.{set-at, getD-at}
+use lib.ListN.{length, getD, set, replicate, length-append, length-map}
+use lib.Seq.{getD-at}
 use Rattle.model.specs.Spans.{Span, Spans}
 use Rattle.model.specs.Slices.{lows, highs}
+use Rattle.model.specs.Filling.{padded}
+use Rattle.model.proofs.Filling.{padded-at, padded-length, padded-last, padded-none, column-more}
 use Rattle.suspects.specs.Slots.{Slots}
 
 -- one end of each range, and 0 in the slots that are not used
 abbrev pub column : (Span → ℕ) → ℕ → Spans → List ℕ
-column f most ss = map f ss ++ replicate (most - length ss) 0
+column f most ss = padded most (map f ss)
 
 abbrev lowEnd : Span → ℕ
 lowEnd s = s .low
@@ -29,46 +31,33 @@ highs-map (s ∷ ss) = ap (λ l. s .high ∷ l) (highs-map ss)
 
 module _ (f : Span → ℕ) (most : ℕ) where
   length-column : (ss : Spans) → length ss ≤ most → length (column f most ss) ≡ most
-  length-column ss h = omega (arith, length-append (map f ss) (replicate (most - length ss) 0), length-map ss f, length-replicate {A = ℕ} (most - length ss) 0)
-
-  -- what stands behind the ranges so far
-  behind : (ss rest : Spans) → column f most (ss ++ rest) ≡ map f ss ++ (map f rest ++ replicate (most - length (ss ++ rest)) 0)
-  behind ss rest = ap (λ l. l ++ replicate (most - length (ss ++ rest)) 0) (map-append f ss rest) ∙ append-assoc (map f ss) (map f rest) (replicate (most - length (ss ++ rest)) 0)
+  length-column ss h = padded-length most (map f ss) (omega (arith, length-map ss f))
 
   pub column-at : (ss : Spans) (s : Span) (rest : Spans) → getD (column f most (ss ++ (s ∷ rest))) (length ss) 0 ≡ f s
-  column-at ss s rest = ap (λ l. getD l (length ss) 0) (behind ss (s ∷ rest)) ∙ getD-at (map f ss) (f s) (map f rest ++ replicate (most - length (ss ++ (s ∷ rest))) 0) 0 (length ss) (length-map ss f)
-
-  free : (k : ℕ) → 0 < k → replicate {A = ℕ} k 0 ≡ 0 ∷ replicate (k - 1) 0
-  free zero h = absurd (omega arith)
-  free (suc k) h = let e : k ≡ suc k - 1 = omega arith in ap (λ n. 0 ∷ replicate {A = ℕ} n 0) e
+  column-at ss s rest =
+      padded-at most (map f (ss ++ (s ∷ rest))) (length ss) ∙ ap (λ l. getD l (length ss) 0) (map-append f ss (s ∷ rest))
+      ∙ getD-at (map f ss) (f s) (map f rest) 0 (length ss) (length-map ss f)
 
   -- a range more
   pub column-new : (ss : Spans) (s : Span) → length ss < most → set (column f most ss) (length ss) (f s) ≡ column f most (ss ++ (s ∷ []))
-  column-new ss s h =
-      let z : most - length ss - 1 ≡ most - length (ss ++ (s ∷ [])) = omega (arith, length-append ss (s ∷ [])) in
-      ap (λ l. set (map f ss ++ l) (length ss) (f s)) (free (most - length ss) (omega arith))
-      ∙ set-at (map f ss) 0 (replicate (most - length ss - 1) 0) (f s) (length ss) (length-map ss f)
-      ∙ ap (λ k. map f ss ++ (f s ∷ replicate k 0)) z
-      ∙ sym (behind ss (s ∷ []))
+  column-new ss s h = column-more f most ss s (length ss) (f s) refl h refl
 
   -- another last range
+  with-last : (ss : Spans) (s : Span) → column f most (ss ++ (s ∷ [])) ≡ padded most (map f ss ++ (f s ∷ []))
+  with-last ss s = ap (padded most) (map-append f ss (s ∷ []))
+
   pub column-last : (ss : Spans) (s t : Span) → set (column f most (ss ++ (s ∷ []))) (length ss) (f t) ≡ column f most (ss ++ (t ∷ []))
-  column-last ss s t =
-      ap (λ l. set l (length ss) (f t)) (behind ss (s ∷ []))
-      ∙ set-at (map f ss) (f s) (replicate (most - length (ss ++ (s ∷ []))) 0) (f t) (length ss) (length-map ss f)
-      ∙ ap (λ k. map f ss ++ (f t ∷ replicate (most - k) 0)) (omega (arith, length-append ss (s ∷ []), length-append ss (t ∷ [])))
-      ∙ sym (behind ss (t ∷ []))
+  column-last ss s t = ap₂ (λ l i. set l i (f t)) (with-last ss s) (sym (length-map ss f)) ∙ padded-last most (map f ss) (f s) (f t) ∙ sym (with-last ss t)
 
   pub column-same : (ss : Spans) (s t : Span) → f s ≡ f t → column f most (ss ++ (s ∷ [])) ≡ column f most (ss ++ (t ∷ []))
-  column-same ss s t e =
-      behind ss (s ∷ []) ∙ ap₂ (λ v k. map f ss ++ (v ∷ replicate (most - k) 0)) e (omega (arith, length-append ss (s ∷ []), length-append ss (t ∷ []))) ∙ sym (behind ss (t ∷ []))
+  column-same ss s t e = with-last ss s ∙ ap (λ v. padded most (map f ss ++ (v ∷ []))) e ∙ sym (with-last ss t)
 
 module _ {most : ℕ} {ss : Spans} {n : ℕ} {low high : List ℕ} (w : Slots most ss n low high) where
   pub low-column : low ≡ column lowEnd most ss
-  low-column = w .low-is ∙ ap (λ l. l ++ replicate (most - length ss) 0) (lows-map ss)
+  low-column = w .low-is ∙ ap₂ (λ l k. l ++ replicate (most - k) 0) (lows-map ss) (sym (length-map ss lowEnd))
 
   pub high-column : high ≡ column highEnd most ss
-  high-column = w .high-is ∙ ap (λ l. l ++ replicate (most - length ss) 0) (highs-map ss)
+  high-column = w .high-is ∙ ap₂ (λ l k. l ++ replicate (most - k) 0) (highs-map ss) (sym (length-map ss highEnd))
 
   pub low-length : length low ≡ most
   low-length = ap length low-column ∙ length-column lowEnd most ss (w .fits)
@@ -77,13 +66,13 @@ pub slots-of : (most : ℕ) (ss : Spans) (n : ℕ) (low high : List ℕ) → len
 slots-of most ss n low high h k a b = record {
   fits = h;
   count = k;
-  low-is = a ∙ ap (λ l. l ++ replicate (most - length ss) 0) (sym (lows-map ss));
-  high-is = b ∙ ap (λ l. l ++ replicate (most - length ss) 0) (sym (highs-map ss));
+  low-is = a ∙ ap₂ (λ l k. l ++ replicate (most - k) 0) (sym (lows-map ss)) (length-map ss lowEnd);
+  high-is = b ∙ ap₂ (λ l k. l ++ replicate (most - k) 0) (sym (highs-map ss)) (length-map ss highEnd);
 }
 
 -- no ranges, in slots that are all 0
 pub slots-none : (most : ℕ) → Slots most [] 0 (replicate most 0) (replicate most 0)
-slots-none most = let z : most ≡ most - 0 = omega arith in let e : replicate {A = ℕ} most 0 ≡ replicate (most - 0) 0 = ap (λ k. replicate {A = ℕ} k 0) z in record { fits = omega arith; count = refl; low-is = e; high-is = e }
+slots-none most = record { fits = omega arith; count = refl; low-is = padded-none most; high-is = padded-none most }
 
 -- what a store makes of the slots
 module _ (most : ℕ) (ss : Spans) (n : ℕ) (low high : List ℕ) where
