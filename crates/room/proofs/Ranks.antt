@@ -1,13 +1,14 @@
 -- Chains counted rank by rank: those that a chain calls have a lower rank, so their needs are there.
 use Prim.Native.Nat.{ℕ, _+_, _≤_, _<_}
 use native.Mathlib.Omega.{arith}
-use native.Mathlib.Decide.{ℕ-discrete, decLt}
+use native.Mathlib.Decide.{ℕ-discrete}
 use mathlib.Core.Path.{_≡_, sym, ap, _∙_}
 use mathlib.Core.Logic.{_≢_}
 use mathlib.Core.List.{List}
-use lib.ListN.{getD, set, replicate, length-set, length-replicate, getD-replicate, List·getD-eq-default}
+use lib.ListN.{getD, set, replicate, length-set, length-replicate}
 use lib.Seq.{getD-set-same, getD-set-other}
 use Rattle.model.specs.Limits.{chainsMost}
+use Rattle.model.proofs.Filling.{zeros-at}
 use Rattle.book.specs.Contents.{Shape, rulesIn}
 use Rattle.calls.specs.Actions.{actionsAt}
 use Rattle.room.specs.declared.Need.{Need}
@@ -15,17 +16,11 @@ use Rattle.room.specs.Counting.{counted}
 use Rattle.room.specs.Capped.{least, Small, kept, Kept, Known, Counting, Upto}
 use Rattle.room.proofs.Steps.{both}
 
-zero-at : (c : ℕ) → getD {A = ℕ} (replicate chainsMost 0) c 0 ≡ 0
-zero-at c = elim (decLt c chainsMost) [
-  | yes lt ↦ getD-replicate {A = ℕ} chainsMost c 0 0 lt
-  | no ge ↦ List·getD-eq-default {A = ℕ} (replicate chainsMost 0) 0 {n = c} (omega (arith, length-replicate {A = ℕ} chainsMost 0))
-]
-
 pub none-kept : Kept (replicate chainsMost 0) (replicate chainsMost 0)
 none-kept = record {
   counts-size = length-replicate {A = ℕ} chainsMost 0;
   words-size = length-replicate {A = ℕ} chainsMost 0;
-  small = λ c. record { rules = omega (arith, zero-at c); words = omega (arith, zero-at c) };
+  small = λ c. record { rules = omega (arith, zeros-at chainsMost c); words = omega (arith, zeros-at chainsMost c) };
 }
 
 -- of two arrays by what they equal
