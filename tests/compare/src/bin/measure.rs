@@ -1,5 +1,6 @@
 //! Measures the proved reviewer on a book of 1,024 rules and a plan of 8 ports: the check of the book, the whole review of
-//! every port, and single calls of the review in slices. Prints the least and the median of many runs, in microseconds.
+//! every port, and single calls of the review in slices; and one call over the costliest rule that we know to write.
+//! Prints the least and the median of many runs, in microseconds.
 
 use second::number::write_number;
 use std::hint::black_box;
@@ -44,6 +45,31 @@ fn plan() -> Vec<u8> {
     bytes
 }
 
+/// A kind 2 of 16 operands: kinds 2 again down to level 5 while there is room, below them what is left to write, and then kinds 0.
+fn operands(bytes: &mut Vec<u8>, level: u32, left: &mut Vec<[u32; 4]>, room: usize) {
+    [2, 16].into_iter().for_each(|n| write_number(bytes, n));
+    for _ in 0..16 {
+        if level < 5 && bytes.len() + 40 < room {
+            operands(bytes, level + 1, left, room);
+        } else if let Some(numbers) = left.pop() {
+            numbers.into_iter().for_each(|n| write_number(bytes, n));
+        } else {
+            write_number(bytes, 0);
+        }
+    }
+}
+
+/// One rule that drops what comes from none of 512 small ranges, each known not to hold by kind 1 and kind 3, under as many kinds 0 as
+/// a book has room for: every horizon costs a walk over the whole book.
+fn costly() -> Vec<u8> {
+    let mut bytes = Vec::new();
+    [1, 1, 1, 1, 1].into_iter().for_each(|n| write_number(&mut bytes, n));
+    let mut left = (0..512).map(|range| [1, 3, range * 4 + 1, range * 4 + 2]).collect();
+    operands(&mut bytes, 1, &mut left, 65_000);
+    assert!(left.is_empty());
+    bytes
+}
+
 fn told(name: &str, mut micros: Vec<f64>) {
     micros.sort_by(f64::total_cmp);
     println!("{name:40} least {:9.2}  median {:9.2}", micros[0], micros[micros.len() / 2]);
@@ -82,4 +108,15 @@ fn main() {
     let longest = slices.iter().copied().fold(0.0, f64::max);
     println!("{rules} slices, 20 times; phase at the end {}; longest {longest:.2}", state[2]);
     told("one slice (reads the book, as public)", slices);
+
+    let (book, plan) = (costly(), [1, 1, 0, 0]);
+    println!("book of {} bytes, {:?} chains and rules", book.len(), tannenlaut::check(&book).expect("a legal book"));
+    told("check", timed(51, || assert!(black_box(tannenlaut::check(&book)).is_ok())));
+    let (count, _) = tannenlaut::start(&book, &plan, 0, &mut words, &mut state).expect("a port of the plan");
+    let (list, first) = (&words[..count as usize], state);
+    told("one slice over the costliest rule", timed(11, || {
+        state = first;
+        assert!(black_box(tannenlaut::step(&book, list, &mut state)).is_ok());
+    }));
+    println!("{} ranges of suspects after it", state[5]);
 }
