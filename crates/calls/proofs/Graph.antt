@@ -77,7 +77,7 @@ module _ (b : Book) (few : length (b .chains) ≤ chainsMost) (sets : List ℕ) 
   pub no-loop : out ≡ 0 → none ≡ lowestLoop (length (b .chains)) 0 b
   no-loop z = sym (lowest-none b .1 (λ c r. let k = reach-within b r in not-own c (omega arith) (ap (λ n. has n c) z ∙ has-nothing c) r))
 
-  pub a-loop : out < 2 ^ 64 → 0 < out → some (trailingZeros 64 out) ≡ lowestLoop (length (b .chains)) 0 b
+  pub a-loop : out < 2 ^ chainsMost → 0 < out → some (trailingZeros 64 out) ≡ lowestLoop (length (b .chains)) 0 b
   a-loop h pos =
       let l = lowest-below out h pos in
       sym (lowest-some b (trailingZeros 64 out) .1 (all .exactly _ _ l l .0 (sym (own (trailingZeros 64 out) l) ∙ lowest-in out h pos), λ d lt. not-own d (omega arith) (lowest-first out d lt)))
@@ -100,7 +100,7 @@ module _ {b : Book} {first action target : List ℕ} {chains rules : ℕ} (acts 
   rank-falls c d k =
       let lc = in-range c (caller-within b c d k) in
       let ld = in-range d (called-within acts c d k) in
-      ones-less 64 (getD sets d 0) (getD sets c 0) d (all .fit .words d) (all .fit .words c)
+      ones-less chainsMost (getD sets d 0) (getD sets c 0) d (all .fit .words d) (all .fit .words c)
       (λ i l q. all .exactly c i lc l .1 (through k (all .exactly d i ld l .0 q))) ld (not-itself d ld) (all .exactly c d lc ld .1 (direct k))
 
   pub rank-below : (c : ℕ) → c < length (b .chains) → rankOf sets c < length (b .chains)
@@ -109,7 +109,7 @@ module _ {b : Book} {first action target : List ℕ} {chains rules : ℕ} (acts 
       let lc = in-range c lt in
       let n = length (b .chains) in
       let most : n ≤ chainsMost = omega (arith, acts .count, acts .shape .few) in
-      let h = ones-less 64 (getD sets c 0) (2 ^ n - 1) c (all .fit .words c) (omega (arith, pow-mono most, pow-pos n))
+      let h = ones-less chainsMost (getD sets c 0) (2 ^ n - 1) c (all .fit .words c) (omega (arith, pow-mono most, pow-pos n))
       (λ i l q. has-ones n i (reached-within (all .exactly c i lc l .0 q))) lc (not-itself c lc) (has-ones n c lt) in
       omega (arith, ones-ones n)
 
@@ -134,4 +134,4 @@ module _ (b : Book) (s t : List ℕ) (p : Reached b s) (q : Reached b t) where
 
   pub one-table : s ≡ t
   unfolding inRow
-  one-table = ext-getD 0 s t (p .fit .size ∙ sym (q .fit .size)) (λ c l. let lc : c < chainsMost = rw (← p .fit .size) l in same-bits 64 (getD s c 0) (getD t c 0) (p .fit .words c) (q .fit .words c) (λ d ld. agree c d lc ld))
+  one-table = ext-getD 0 s t (p .fit .size ∙ sym (q .fit .size)) (λ c l. let lc : c < chainsMost = rw (← p .fit .size) l in same-bits chainsMost (getD s c 0) (getD t c 0) (p .fit .words c) (q .fit .words c) (λ d ld. agree c d lc ld))

@@ -32,17 +32,17 @@ module _ (sets : List ℕ) (fit : Fit sets) (a v : ℕ) (lt : a < chainsMost) wh
   unfolding inRow
   row-other x e ne = ap (λ x. has x e) (getD-set-other sets a x v 0 ne)
 
-  words-set : v < 2 ^ 64 → (c : ℕ) → getD (set sets a v) c 0 < 2 ^ 64
+  words-set : v < 2 ^ chainsMost → (c : ℕ) → getD (set sets a v) c 0 < 2 ^ chainsMost
   words-set h c = elim (ℕ-discrete c a) [
     | yes e ↦ rw (e, getD-set-same sets a v 0 (rw (fit .size) lt)) h
     | no ne ↦ rw (getD-set-other sets a c v 0 ne) (fit .words c)
   ]
 
-  fit-set : v < 2 ^ 64 → Fit (set sets a v)
+  fit-set : v < 2 ^ chainsMost → Fit (set sets a v)
   fit-set h = record { size = length-set sets a v ∙ fit .size; words = words-set h }
 
   -- a store of a greater set at a
-  pub grown : v < 2 ^ 64 → (f : ℕ → Bool) → ((e : ℕ) → has v e ≡ inRow sets a e || f e) → Holds (set sets a v) (λ x e. inRow sets x e || (eqb x a && f e))
+  pub grown : v < 2 ^ chainsMost → (f : ℕ → Bool) → ((e : ℕ) → has v e ≡ inRow sets a e || f e) → Holds (set sets a v) (λ x e. inRow sets x e || (eqb x a && f e))
   grown h f more = record {
     fit = fit-set h;
     bits = λ x e lx le. elim (ℕ-discrete x a) [

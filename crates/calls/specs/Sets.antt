@@ -23,14 +23,14 @@ inRow sets c d = has (getD sets c 0) d
 abbrev pub Relation : Type 0
 Relation = ℕ → ℕ → Bool
 
--- a table has the bits of a relation on the first 64 numbers
+-- a table has the bits of a relation on the numbers of chains
 abbrev pub Table : List ℕ → Relation → Type 0
 Table sets r = (c d : ℕ) → c < chainsMost → d < chainsMost → inRow sets c d ≡ r c d
 
--- 64 words of 64 bits
+-- a word for each chain, with a bit for each
 pub record Fit (sets : List ℕ) : Type 0 where
   pub size : length sets ≡ chainsMost
-  pub words : (c : ℕ) → getD sets c 0 < 2 ^ 64
+  pub words : (c : ℕ) → getD sets c 0 < 2 ^ chainsMost
 
 pub record Holds (sets : List ℕ) (r : Relation) : Type 0 where
   pub fit : Fit sets

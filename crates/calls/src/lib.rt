@@ -5,7 +5,7 @@ use book::RULES;
 use book::STARTS;
 ghost use mathlib.Core.Path.{_≡_};
 ghost use mathlib.Core.Bool.{_&&_, _||_};
-ghost use Prim.Native.Nat.{ℕ, _+_, _<_, _≤_};
+ghost use Prim.Native.Nat.{ℕ, _+_, _^_, _<_, _≤_};
 ghost use lib.ListN.{length, getD};
 ghost use lib.Dec.{eqb, ltb};
 ghost use Rattle.model.specs.Tree.{Book};
@@ -43,8 +43,8 @@ pub enum CallCheck {
 
 // The set x with d.
 fn with(x: u64, d: usize) -> u64
-    requires { ⌜ d < 64 ⌝ }
-    ensures { λ r. ⌜ ((e : ℕ) → has r e ≡ has x e || eqb e d) ⌝ }
+    requires { ⌜ (d < chainsMost) × (x < 2 ^ chainsMost) ⌝ }
+    ensures { λ r. ⌜ (r < 2 ^ chainsMost) × ((e : ℕ) → has r e ≡ has x e || eqb e d) ⌝ }
 {
     x | (1u64 << d)
 }
@@ -155,7 +155,7 @@ pub fn reached<'a>(
 
 // The chains that are in their own set.
 fn looping(sets: &[u64; CHAINS]) -> u64
-    ensures { λ r. ⌜ ((d : ℕ) → d < chainsMost → has r d ≡ inRow (now (sets .entry)) d d) ⌝ }
+    ensures { λ r. ⌜ (r < 2 ^ chainsMost) × ((d : ℕ) → d < chainsMost → has r d ≡ inRow (now (sets .entry)) d d) ⌝ }
 {
     let mut out: u64 = 0;
     let mut c: usize = 0;
