@@ -17,7 +17,7 @@ mod rules;
 // The chains of a book, at most; one more, for where the last chain's rules end; its rules, at most.
 pub const CHAINS: usize = 64;
 
-pub const STARTS: usize = 65;
+pub const STARTS: usize = CHAINS + 1;
 
 pub const RULES: usize = 1024;
 
@@ -52,7 +52,7 @@ pub struct BookAnswer {
     pub contents: Contents,
 }
 
-const BYTES: usize = 65535;
+pub const BYTES: usize = 65535;
 
 // What reading an action finds: its number, the chain that it calls (0 where it calls none), and the place after it.
 pub enum ActionRead {

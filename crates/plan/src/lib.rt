@@ -5,23 +5,24 @@ ghost use Rattle.model.specs.Limits.{portsMost, rangesMost};
 ghost use Rattle.model.specs.Plan.{planOf, portsFrom, rangesFrom};
 ghost use Rattle.plan.specs.Contents.{planAnswer, slots, refusedPlan, asked};
 ghost use Rattle.plan.specs.Written.{standing, ends, tables, Wide, Sized, portCount, onePort, CountIs, RangesAre, PortIs, PortsAre};
+use numbers::LARGEST;
 use numbers::NumberRead;
 use numbers::read_field;
 
 // The ports of a plan, at most; one more, for where the last port's ranges end; the ranges of all ports, at most.
 pub const PORTS: usize = 32;
 
-pub const STARTS: usize = 33;
+pub const STARTS: usize = PORTS + 1;
 
-pub const RANGES: usize = 2048;
+pub const RANGES: usize = PORTS * RANGES_MOST as usize;
 
-const BYTES: usize = 32768;
+pub const BYTES: usize = 32768;
 
-const GREATEST: u64 = 4294967295;
+const GREATEST: u64 = LARGEST;
 
 const PORT_HIGHEST: u64 = 31;
 
-const PORTS_MOST: u64 = 32;
+const PORTS_MOST: u64 = PORTS as u64;
 
 const RANGES_MOST: u64 = 64;
 

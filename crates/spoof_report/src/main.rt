@@ -3,9 +3,9 @@ ghost use Rattle.io.specs.Counts.{Counts};
 use libc::STDOUT_FILENO;
 
 // A byte more than a book or a plan may have, so that one that is too long is seen to be.
-const BOOK: usize = 65536;
+const BOOK: usize = book::BYTES + 1;
 
-const PLAN: usize = 32769;
+const PLAN: usize = plan::BYTES + 1;
 
 const WORDS: usize = 16384;
 
