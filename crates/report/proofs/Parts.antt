@@ -14,6 +14,7 @@ use Rattle.model.specs.Unfolding.{ListRule, listOf, wordsOf}
 use Rattle.model.specs.Text.{bytes}
 use Rattle.model.specs.Report.{report, body, bodyText, portLines}
 use Rattle.model.specs.Entries.{Counts, counted, room, filled, wordsAfter}
+use Rattle.model.proofs.Success.{fine-same}
 use Rattle.book.specs.Contents as books
 use Rattle.book.specs.declared.Contents.{Contents}
 use Rattle.plan.specs.Contents.{contentsOf, portsAt}
@@ -26,9 +27,6 @@ use Rattle.text.specs.Puts.{Puts}
 use Rattle.text.proofs.Appends.{then}
 use Rattle.report.specs.Lines.{countsText, refusalText}
 use Rattle.report.specs.Reports.{BookIn, ListIn, PartPut, PortsPut, listPart, planPart, reportEntry}
-
-pub fine-same : {A : Type 0} {x y : A} → _≡_ {A = Answer A} (fine x) (fine y) → x ≡ y
-fine-same e = cc
 
 -- the contents are those of whatever book was read there
 pub same-contents : (s : List ℕ) (c : Contents) (ranks : List ℕ) → BookIn s c ranks → (b : Book) → readable s ≡ fine b → c ≡ books.contentsOf b

@@ -11,6 +11,7 @@ use Rattle.model.specs.Spans.{complement}
 use Rattle.model.specs.Unfolding.{listOf}
 use Rattle.model.specs.Review.{review}
 use Rattle.model.specs.Entries.{listIn, suspectsIn}
+use Rattle.model.proofs.Success.{fine-same}
 use Rattle.plan.specs.Contents.{PlanCharted, rangesAt, rangesAsked}
 use Rattle.plan.specs.declared.PlanContents.{PlanContents}
 use Rattle.plan.proofs.Charted.{plan-charted}
@@ -20,7 +21,6 @@ use Rattle.review.specs.States.{phaseOf}
 use Rattle.review.specs.Reviews.{Reviewable}
 use Rattle.review.specs.declared.Phase.{Phase}
 use Rattle.report.specs.Reports.{ListIn, PlanIn, PortReviewed}
-use Rattle.report.proofs.Parts.{fine-same}
 
 module _ (s words : List ℕ) (count : ℕ) (l : ListIn s words count) (c : PlanContents) (p : PlanIn c) (i : ℕ) (lt : i < c .ports) where
   charted : PlanCharted (p .ports) c
