@@ -16,8 +16,7 @@ use Rattle.model.specs.Review.{review}
 use Rattle.model.specs.Spans.{complement}
 use Rattle.model.specs.Unfolding.{ListRule, listOf, wordsOf}
 use Rattle.model.specs.Report.{report, body, bodyText, portLine, portLines}
-use Rattle.plan.specs.Contents.{contentsOf}
-use Rattle.plan.proofs.Charted.{plan-charted}
+use Rattle.model.proofs.PlanRead.{plan-good}
 use Rattle.report.specs.Lines.{lineMost, bodyMost, bufferBytes, countsText}
 use Rattle.report.specs.Reports.{listPart, planPart}
 use Rattle.report.proofs.Lengths.{port-short, counts-short, refusal-short}
@@ -27,10 +26,6 @@ unfolding portLines
 lines-short list [] = omega arith
 lines-short list (p ∷ ps) =
     omega (arith, length-append (portLine list p) (portLines list ps), port-short (p .number) (review (p .number) (complement greatest (p .ranges)) list) .within, lines-short list ps)
-
-few-ports : (plan : List ℕ) (ports : List Port) → planOf plan ≡ fine ports → length ports ≤ portsMost
-unfolding contentsOf
-few-ports plan ports e = plan-charted plan ports e .shape .few
 
 module _ (lent : ℕ) (plan : List ℕ) where
   list-short : (b : Book) (ports : List Port) → length ports ≤ portsMost → length (bodyText (listPart b ports lent)) ≤ bodyMost
@@ -44,7 +39,7 @@ module _ (lent : ℕ) (plan : List ℕ) where
   plan-short b = go (planOf plan) refl
     where
       go : (m : Answer (List Port)) → planOf plan ≡ m → length (bodyText (_>>=_ m (λ ports. listPart b ports lent))) ≤ bodyMost
-      go (fine ports) e = list-short b ports (few-ports plan ports e)
+      go (fine ports) e = list-short b ports (plan-good plan ports e .few)
       go (refused n p) e = omega (arith, refusal-short n p .within)
 
   pub report-short : (book : List ℕ) → length (report book plan lent) ≤ bufferBytes
