@@ -7,6 +7,7 @@ use mathlib.Core.Path.{_≡_, refl, sym, _∙_, ap}
 use native.Mathlib.Omega.{arith}
 use lib.Dec.{eqb}
 use lib.ListN.{length, take, drop, replicate, length-append}
+use lib.Seq.{take-append-seam}
 use borrow.Author.Tests.{le-leb, eq-eqb, ne-eqb}
 use Rattle.model.specs.Limits.{spansMost}
 use Rattle.model.specs.Answer.{when}
@@ -17,15 +18,6 @@ use Rattle.model.specs.Review.{Phase}
 use Rattle.model.specs.Slices.{zip, lows, highs, spansIn, rising, zeros, inWriting, written, matchIn, conditionsIn, ruleIn}
 use Rattle.model.proofs.EveryRule.{every-as, every-both, every-of-list}
 use Rattle.model.proofs.BookRead.{Places, Sound}
-
--- a part that stands first
-pub take-first : {A : Type 0} (a b : List A) → take (length a) (a ++ b) ≡ a
-take-first [] b = refl
-take-first (x ∷ a) b = ap (λ l. x ∷ l) (take-first a b)
-
-pub drop-first : {A : Type 0} (a b : List A) → drop (length a) (a ++ b) ≡ b
-drop-first [] b = refl
-drop-first (x ∷ a) b = drop-first a b
 
 pub words-append : (a b : List ListRule) → wordsOf (a ++ b) ≡ wordsOf a ++ wordsOf b
 unfolding wordsOf
@@ -84,7 +76,7 @@ module _ (b : Book) where
   rule-back r rest h =
       let tail = conditionWords (r .conditions) ++ wordsOf rest in
       let long : length (r .conditions) ≤ length tail = omega (arith, length-append (conditionWords (r .conditions)) (wordsOf rest), length-words (r .conditions)) in
-      let first : take (length (r .conditions)) tail ≡ conditionWords (r .conditions) = ap (λ n. take n tail) (sym (length-words (r .conditions))) ∙ take-first (conditionWords (r .conditions)) (wordsOf rest) in
+      let first : take (length (r .conditions)) tail ≡ conditionWords (r .conditions) = ap (λ n. take n tail) (sym (length-words (r .conditions))) ∙ take-append-seam (conditionWords (r .conditions)) (wordsOf rest) in
       rw (le-leb 3 (suc (suc (suc (length tail)))) (omega arith), le-leb (3 + length (r .conditions)) (suc (suc (suc (length tail)))) (omega arith), le-leb (r .action) 1 (h .action), first, conditions-back (r .conditions) (h .matches))
 
 -- A STATE'S SUSPECTS ARE READ BACK OUT OF ITS SLOTS

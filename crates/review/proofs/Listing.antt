@@ -7,7 +7,7 @@ use mathlib.Core.Path.{_≡_, refl, sym, _∙_, ap, ap₂, subst}
 use native.Mathlib.Omega.{arith}
 use lib.Dec.{eqb}
 use lib.ListN.{length, getD, drop, length-append, length-drop}
-use lib.Seq.{drop-drop, getD-drop}
+use lib.Seq.{drop-drop, getD-drop, drop-append-seam}
 use Rattle.model.specs.Limits.{greatest, spansMost}
 use Rattle.model.specs.Answer.{when}
 use Rattle.model.specs.Standing.{Placed, BookStands}
@@ -19,7 +19,7 @@ use Rattle.model.specs.Review.{mayPass, leftAfter, leftBehind, accepting, revie
 use Rattle.model.specs.Entries.{listIn, suspectsIn}
 use Rattle.model.proofs.EveryRule.{every-last}
 use Rattle.model.proofs.Placed.{readable-placed, list-placed}
-use Rattle.model.proofs.ReadBack.{drop-first, words-append, length-words}
+use Rattle.model.proofs.ReadBack.{words-append, length-words}
 use Rattle.model.proofs.Success.{fine-is}
 use Rattle.model.proofs.SuspectsFit.{left-canonical, suspects-fit}
 use Rattle.model.proofs.Tests.{when-cases}
@@ -134,7 +134,7 @@ module _ {s words : List ℕ} {count port : ℕ} {suspects : Suspects} (x : Revi
             let tail = wordsOf o ++ x .others in
             let here : words ≡ wordsOf (l .done) ++ (wordsOf (r ∷ o) ++ x .others) =
             x .are ∙ ap (λ w. w ++ x .others) (ap wordsOf (sym e) ∙ words-append (l .done) (r ∷ o)) ∙ append-assoc (wordsOf (l .done)) (wordsOf (r ∷ o)) (x .others) in
-            let from : drop at words ≡ wordsOf (r ∷ o) ++ x .others = ap₂ drop (sym (l .place)) here ∙ drop-first (wordsOf (l .done)) (wordsOf (r ∷ o) ++ x .others) in
+            let from : drop at words ≡ wordsOf (r ∷ o) ++ x .others = ap₂ drop (sym (l .place)) here ∙ drop-append-seam (wordsOf (l .done)) (wordsOf (r ∷ o) ++ x .others) in
             let parts : drop at words ≡ r .action ∷ r .number ∷ length (r .conditions) ∷ (conditionWords (r .conditions) ++ tail) =
             from ∙ ap (λ w. r .action ∷ r .number ∷ length (r .conditions) ∷ w) (append-assoc (conditionWords (r .conditions)) (wordsOf o) (x .others)) in
             record {
