@@ -20,6 +20,7 @@ use Rattle.model.specs.Entries.{listIn, suspectsIn}
 use Rattle.model.proofs.EveryRule.{every-last}
 use Rattle.model.proofs.Placed.{readable-placed, list-placed}
 use Rattle.model.proofs.ReadBack.{words-append, length-words}
+use Rattle.model.proofs.Sliced.{left-append}
 use Rattle.model.proofs.Success.{fine-is}
 use Rattle.model.proofs.SuspectsFit.{left-canonical, suspects-fit}
 use Rattle.model.proofs.Tests.{when-cases}
@@ -47,11 +48,6 @@ words-stand s words at r tail e h =
       room = omega (arith, ap length e, length-drop at words, length-append (conditionWords (r .conditions)) tail, length-words (r .conditions), n);
       written = written-of s words (at + 3) (r .conditions) tail (sym (drop-drop 3 at words) ∙ ap (drop 3) e) h;
     }
-
-left-append : (p : ℕ) (ss : Spans) (a : List ListRule) (r : ListRule) → leftBehind p ss (a ++ (r ∷ [])) ≡ leftAfter p r (leftBehind p ss a)
-unfolding leftBehind
-left-append p ss [] r = refl
-left-append p ss (q ∷ a) r = left-append p (leftAfter p q ss) a r
 
 pub left-none : (p : ℕ) (ss : Spans) → leftBehind p ss [] ≡ ss
 unfolding leftBehind
