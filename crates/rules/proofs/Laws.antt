@@ -1,10 +1,9 @@
 -- The rule of a number stands where the contents say, and its bytes lie in the book. Assumes nothing.
-use Prim.Native.Nat.{ℕ, zero, suc, _+_, _-_, _≤_, _<_}
+use Prim.Native.Nat.{ℕ, _-_, _≤_, _<_}
 use native.Mathlib.Omega.{arith}
-use mathlib.Core.List.{List, [], _∷_}
+use mathlib.Core.List.{List, []}
 use mathlib.Core.Path.{_≡_, refl, sym, _∙_, ap, subst}
 use lib.ListN.{length, getD, take, drop}
-use borrow.Author.Tests.{eq-eqb, ne-eqb}
 use Rattle.model.specs.Limits.{rulesMost}
 use Rattle.model.specs.Answer.{Answer, fine, refused, _>>=_}
 use Rattle.model.specs.Tree.{Rule, Book, rulesOf}
@@ -14,7 +13,7 @@ use Rattle.model.specs.Standing.{RuleWritten}
 use Rattle.model.proofs.Success.{behind, fine-same}
 use Rattle.model.proofs.Placed.{readable-read}
 use Rattle.model.proofs.RuleOwn.{rule-own}
-use Rattle.model.proofs.BookKnown.{Numbered, KnownBook, book-known}
+use Rattle.model.proofs.BookKnown.{KnownBook, numbered-found, numbered-none, book-known}
 use Rattle.book.specs.Contents.{contentsOf}
 use Rattle.book.specs.Own.{noRule}
 use Rattle.book.specs.declared.Contents.{Contents}
@@ -22,18 +21,6 @@ use Rattle.book.proofs.Charts.{contents-owned}
 use Rattle.rules.specs.Rules.{Bounds, told, boundsIn, ruleBounds, bytesIn}
 use Rattle.rules.specs.declared.RuleAnswer.{RuleAnswer}
 use Rattle.rules.specs.declared.RuleAnswer.the-variants.{At, Refused}
-
--- RULES ARE NUMBERED IN THEIR ORDER: the rule of a number is the one at that index
-numbered-found : (number i n : ℕ) (rs : List Rule) → Numbered i rs → number ≡ i + n → n < length rs → ruleOf number rs ≡ fine (getD rs n noRule)
-unfolding ruleOf
-numbered-found number i n [] h e lt = absurd (omega arith)
-numbered-found number i zero (r ∷ rs) h e lt = rw (eq-eqb (r .number) number (omega (arith, h .0)))
-numbered-found number i (suc n) (r ∷ rs) h e lt = rw (ne-eqb (r .number) number (λ q. omega (arith, h .0))) (numbered-found number (suc i) n rs (h .1) (omega arith) (omega arith))
-
-numbered-none : (number i : ℕ) (rs : List Rule) → Numbered i rs → i + length rs ≤ number → ruleOf number rs ≡ refused 17 number
-unfolding ruleOf
-numbered-none number i [] h le = refl
-numbered-none number i (r ∷ rs) h le = rw (ne-eqb (r .number) number (λ q. omega (arith, h .0))) (numbered-none number (suc i) rs (h .1) (omega arith))
 
 module _ (s : List ℕ) (b : Book) (e : readable s ≡ fine b) (c : Contents) (q : c ≡ contentsOf b) where
   known : KnownBook s b
@@ -55,7 +42,7 @@ module _ (s : List ℕ) (b : Book) (e : readable s ≡ fine b) (c : Contents) (q
   bounds-at number lt =
       let r = readable-read s b e in
       let o = contents-owned s b (r .0) (r .1) number (subst (λ c. number < c .rules) q lt) in
-      let f = numbered-found number 0 number (rulesOf b) (known .numbered) (omega arith) (omega (arith, total)) in
+      let f = numbered-found noRule number 0 number (rulesOf b) (known .numbered) (omega arith) (omega (arith, total)) in
       rw (q, f, o .starts, o .ends)
 
 -- what the entries answer of a book that is refused, and of one that is not
