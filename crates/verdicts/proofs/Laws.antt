@@ -17,6 +17,7 @@ use Rattle.model.specs.Verdict.{listVerdict}
 use Rattle.model.specs.Entries.{Counts, counted}
 use Rattle.model.proofs.Success.{fine-same}
 use Rattle.model.proofs.Placed.{list-placed}
+use Rattle.model.proofs.VerdictSmall.{chain-small, list-small}
 use Rattle.book.specs.Contents.{contentsOf}
 use Rattle.book.specs.declared.Contents.{Contents}
 use Rattle.listing.specs.Listings as listings
@@ -32,7 +33,6 @@ use Rattle.walks.proofs.Books.{read-stands, kept-of, keeping-of, listing-of}
 use Rattle.verdicts.specs.Verdicts.{told, Opened, Ready, Decides}
 use Rattle.verdicts.specs.declared.Verdict.{Verdict}
 use Rattle.verdicts.specs.declared.Verdict.the-variants.{Refused}
-use Rattle.verdicts.proofs.Small.{chain-small, list-small}
 
 module _ {s : List ℕ} {c : Contents} (o : Opened s c) where
   -- whatever book was read is the one that was opened

@@ -1,4 +1,4 @@
-pub mod Small
+pub mod ByNumber
 pub mod Laws
 pub mod Entries
 pub mod Unique

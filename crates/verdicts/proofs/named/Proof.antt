@@ -1,5 +1,5 @@
 -- `verdicts::named` meets its contract. Assumes nothing.
-use Rattle.verdicts.proofs.Small.{accept-is, drop-is}
+use Rattle.verdicts.proofs.ByNumber.{accept-is, drop-is}
 use Rattle.verdicts.proofs.named.Statement.{statement}
 use Rattle.verdicts.proofs.named.Tie as tie
 
