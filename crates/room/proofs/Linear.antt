@@ -7,22 +7,10 @@ use lib.ListN.{length, length-append}
 use Rattle.model.specs.Calls.{chainOf}
 use Rattle.model.specs.Tree.{Rule, Book, Action}
 use Rattle.model.specs.Tree.Action.{accept, drop, reject, log, empty, return, call}
-use Rattle.model.specs.Unfolding.{ListRule, Context, holds, fails, entered, past, unfoldRules, unfoldChain, listOf, conditionWords, wordsOf}
-use Rattle.model.proofs.ReadBack.{words-append, length-words}
+use Rattle.model.specs.Unfolding.{ListRule, Context, holds, fails, entered, past, unfoldRules, unfoldChain, listOf, wordsOf}
+use Rattle.model.proofs.ReadBack.{length-none, length-one, length-both}
 use Rattle.room.specs.declared.Need.{Need}
 use Rattle.room.specs.Counting.{put, heldAfter, counted, actionsOf, chainNeed}
-
--- the words of two parts, and of one rule
-words-both : (xs ys : List ListRule) → length (wordsOf (xs ++ ys)) ≡ length (wordsOf xs) + length (wordsOf ys)
-words-both xs ys = ap length (words-append xs ys) ∙ length-append (wordsOf xs) (wordsOf ys)
-
-words-one : (r : ListRule) → length (wordsOf (r ∷ [])) ≡ 3 + length (r .conditions)
-unfolding wordsOf
-words-one r = omega (arith, length-append (conditionWords (r .conditions)) [], length-words (r .conditions))
-
-words-none : length (wordsOf []) ≡ 0
-unfolding wordsOf
-words-none = refl
 
 -- k conditions of the callers and held of the chain itself, the rule's own match among them
 module _ (k : ℕ) where
@@ -62,10 +50,10 @@ module _ (run : Context → ℕ → List ListRule) (f : ℕ → Need)
     under = length-append ctx (holds r) ∙ omega arith
 
     a-rule : (n i : ℕ) → length (wordsOf (record { action = n; number = i; conditions = ctx ++ holds r } ∷ [])) ≡ 3 + held * 1 + k * 1
-    a-rule n i = words-one (record { action = n; number = i; conditions = ctx ++ holds r }) ∙ omega (arith, under)
+    a-rule n i = length-one (record { action = n; number = i; conditions = ctx ++ holds r }) ∙ omega (arith, under)
 
     none : length (wordsOf []) ≡ 0 + held * 0 + k * 0
-    none = words-none ∙ omega arith
+    none = length-none ∙ omega arith
 
     entered-words : (a : Action) → length (wordsOf (entered run ctx r a)) ≡ put f a .words + held * put f a .rules + k * put f a .rules
     entered-words accept = a-rule 0 (r .number)
@@ -78,9 +66,9 @@ module _ (run : Context → ℕ → List ListRule) (f : ℕ → Need)
 
   words-counted : (k : ℕ) (ctx : Context) (held : ℕ) → Under k ctx held → (rs : List Rule) → length (wordsOf (unfoldRules run ctx rs)) ≡ counted f held (actionsOf rs) .words + k * counted f held (actionsOf rs) .rules
   unfolding unfoldRules counted
-  words-counted k ctx held h [] = words-none ∙ omega arith
+  words-counted k ctx held h [] = length-none ∙ omega arith
   words-counted k ctx held h (r ∷ rs) =
-      words-both (entered run ctx r (r .action)) (unfoldRules run (past ctx r (r .action)) rs)
+      length-both (entered run ctx r (r .action)) (unfoldRules run (past ctx r (r .action)) rs)
       ∙ omega (arith, entered-words k ctx r held h (r .action), words-counted k (past ctx r (r .action)) (heldAfter held (r .action)) (past-under k ctx r (r .action) held h) rs)
 
 -- A CHAIN'S PART OF THE LIST, under any conditions
@@ -91,7 +79,7 @@ chain-rules (suc n) b ctx c = rules-counted (unfoldChain n b) (chainNeed n b) (c
 
 pub chain-words : (n : ℕ) (b : Book) (ctx : Context) (c : ℕ) → length (wordsOf (unfoldChain n b ctx c)) ≡ chainNeed n b c .words + length ctx * chainNeed n b c .rules
 unfolding unfoldChain chainNeed
-chain-words zero b ctx c = words-none ∙ omega arith
+chain-words zero b ctx c = length-none ∙ omega arith
 chain-words (suc n) b ctx c = words-counted (unfoldChain n b) (chainNeed n b) (chain-words n b) (length ctx) ctx 1 (omega arith) (chainOf b c)
 
 -- THE WHOLE LIST: the entry's part under no condition, and the policy
@@ -107,4 +95,4 @@ module _ (b : Book) where
   unfolding listOf
   list-words =
       let policy : ListRule = record { action = b .policy; number = b .total; conditions = [] } in
-      words-both (unfoldChain (length (b .chains)) b [] 0) (policy ∷ []) ∙ omega (arith, chain-words (length (b .chains)) b [] 0, words-one policy)
+      length-both (unfoldChain (length (b .chains)) b [] 0) (policy ∷ []) ∙ omega (arith, chain-words (length (b .chains)) b [] 0, length-one policy)
