@@ -1,7 +1,7 @@
 -- The whole book, from its end to its beginning: one law for each way through the code.
 use Prim.Native.Nat.{ℕ, suc, _≤_, _<_}
 use mathlib.Core.List.{List, []}
-use mathlib.Core.Path.{_≡_, sym, ap, _∙_, subst}
+use mathlib.Core.Path.{_≡_, sym, ap, _∙_}
 use native.Mathlib.Omega.{arith}
 use lib.ListN.{length, replicate}
 use borrow.Author.Tests.{le-leb, lt-leb, eq-eqb, ne-eqb}
@@ -12,7 +12,6 @@ use Rattle.model.specs.Tree.{Rule, Book}
 use Rattle.model.specs.Book.{within, chain, end, wholeBook, bookOf, start}
 use Rattle.model.proofs.Success as success
 use Rattle.model.proofs.Filling.{padded-none, padded-zero}
-use Rattle.model.proofs.Success.{Moved, within-got}
 use Rattle.numbers.specs.Field.{fieldAt}
 use Rattle.expressions.specs.Told.{stand}
 use Rattle.expressions.proofs.Fields.{field-got, field-refused}
@@ -81,12 +80,6 @@ module _ (chains : ℕ) (s : List ℕ) (at : ℕ) where
 
   pub policy-got : (policy next : ℕ) → fieldAt s at 0 1 ≡ numeral policy next → (r : BookAnswer) → r ≡ bookAnswer (behindPolicy chains policy s (stand next 0 0)) → r ≡ bookAnswer (behindChains chains s (stand at 0 0))
   policy-got policy next e r h = h ∙ sym (ap bookAnswer (after-got (within 0 1 s (stand at 0 0)) _ policy _ (field-got s at 0 1 0 0 policy next e)))
-
--- the limits of a field that was read
-pub field-limits : (s : List ℕ) (at low high v next : ℕ) → fieldAt s at low high ≡ numeral v next → (low ≤ v) × (v ≤ high)
-field-limits s at low high v next e =
-    let k = subst (λ m. success.Got m (λ n st′. (low ≤ n) × (n ≤ high) × Moved s (stand at 0 0) st′)) (field-got s at low high 0 0 v next e) (within-got low high s (stand at 0 0)) in
-    (k .0, k .1)
 
 module _ (s : List ℕ) where
   pub too-long : bookBytes < length s → refusedBook 1 0 ≡ bookAnswer (bookOf s)

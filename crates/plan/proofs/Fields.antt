@@ -1,11 +1,10 @@
 -- Reading on after a field, by what stands at its place.
-use Prim.Native.Nat.{ℕ, _≤_}
+use Prim.Native.Nat.{ℕ}
 use mathlib.Core.List.{List}
-use mathlib.Core.Path.{_≡_, ap, subst, _∙_}
+use mathlib.Core.Path.{_≡_, ap, _∙_}
 use Rattle.model.specs.Reader.{Stand, Read, refused, after}
 use Rattle.model.specs.Number.{numeral, illegible, onward}
 use Rattle.model.specs.Book.{within}
-use Rattle.model.proofs.Success.{Got, Moved, within-got}
 use Rattle.numbers.specs.Field.{fieldAt}
 use Rattle.numbers.proofs.Fields.{within-is}
 use Rattle.plan.specs.Written.{standing}
@@ -16,9 +15,3 @@ module _ {A : Type 0} (k : ℕ → Stand → Read A) (s : List ℕ) (at low high
 
   pub field-got : (v next : ℕ) → fieldAt s at low high ≡ numeral v next → after (within low high s (standing at)) k ≡ k v (standing next)
   field-got v next e = ap (λ (m : Read ℕ). after m k) (within-is low high s (standing at) ∙ ap (onward (standing at)) e)
-
--- a field that is read is within its limits
-pub field-within : (s : List ℕ) (at low high v next : ℕ) → fieldAt s at low high ≡ numeral v next → (low ≤ v) × (v ≤ high)
-field-within s at low high v next e =
-    let k = subst (λ (m : Read ℕ). Got m (λ n st′. (low ≤ n) × (n ≤ high) × Moved s (standing at) st′)) (within-is low high s (standing at) ∙ ap (onward (standing at)) e) (within-got low high s (standing at)) in
-    (k .0, k .1)

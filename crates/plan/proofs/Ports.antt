@@ -15,13 +15,14 @@ use Rattle.model.specs.Plan.{Port, rangesFrom, portsFrom}
 use Rattle.model.specs.Filling.{put}
 use Rattle.model.proofs.Filling.{length-put, put-none, put-put, put-more, set-put}
 use Rattle.numbers.specs.Field.{fieldAt}
+use Rattle.numbers.proofs.Fields.{field-within}
 use Rattle.plan.specs.declared.PlanStep.{PlanStep}
 use Rattle.plan.specs.declared.PlanStep.the-variants as step
 use Rattle.plan.specs.declared.PortRead.{PortRead}
 use Rattle.plan.specs.declared.PortRead.the-variants as port
 use Rattle.plan.specs.Contents.{slots, lows, highs, numbers, allRanges, starts}
 use Rattle.plan.specs.Written.{standing, Ends, ends, Wide, laid, Tables, onePort, RangesAre, PortIs, PortsAre}
-use Rattle.plan.proofs.Fields.{field-bad, field-got, field-within}
+use Rattle.plan.proofs.Fields.{field-bad, field-got}
 use Rattle.plan.proofs.Told.{Ported, ranges-bad, ranges-got, port-bad, port-got}
 use Rattle.plan.proofs.Ranges.{ends-same}
 

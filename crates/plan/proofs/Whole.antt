@@ -11,6 +11,7 @@ use Rattle.model.specs.Book.{within, end, start}
 use Rattle.model.specs.Plan.{Port, portsFrom, wholePlan, as-eleven, planOf}
 use Rattle.model.proofs.Filling.{put-padded}
 use Rattle.numbers.specs.Field.{fieldAt}
+use Rattle.numbers.proofs.Fields.{field-within}
 use Rattle.plan.specs.declared.PlanAnswer.{PlanAnswer}
 use Rattle.plan.specs.declared.PlanRead.the-variants.{Fine}
 use Rattle.plan.specs.declared.PlanStep.{PlanStep}
@@ -19,7 +20,7 @@ use Rattle.plan.specs.declared.CountRead.{CountRead}
 use Rattle.plan.specs.declared.CountRead.the-variants as count
 use Rattle.plan.specs.Contents.{slots, lows, highs, numbers, allRanges, starts, contentsOf, refusedPlan, planAnswer}
 use Rattle.plan.specs.Written.{standing, Tables, tables, Sized, portCount, CountIs, PortsAre}
-use Rattle.plan.proofs.Fields.{field-bad, field-got, field-within}
+use Rattle.plan.proofs.Fields.{field-bad, field-got}
 use Rattle.plan.proofs.Told.{count-bad, count-got, ports-bad, ports-got}
 use Rattle.plan.proofs.Ports.{after-after}
 

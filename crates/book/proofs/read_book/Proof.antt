@@ -2,7 +2,8 @@
 use borrow.Author.Needs.{needs}
 use mathlib.Core.Path.{sym, _∙_, ap}
 use Rattle.numbers.specs.Told.{told}
-use Rattle.book.proofs.BookSteps.{field-limits, too-long, edition-refused, count-refused, header-read}
+use Rattle.numbers.proofs.Fields.{field-within}
+use Rattle.book.proofs.BookSteps.{too-long, edition-refused, count-refused, header-read}
 use Rattle.book.proofs.read_book.Statement.{statement}
 use Rattle.book.proofs.read_book.Tie as tie
 
@@ -40,7 +41,7 @@ read-behind-chains-requires : tie.Need-read-behind-chains-requires
 read-behind-chains-requires c κs =
     let v = c .before in
     let f = v .before .before in
-    (f .before .before .before .before .before .if1 .left, field-limits _ _ _ _ _ _ (sym (f .read-field2 .ensures) ∙ ap told (v .chains .given .1)) .1)
+    (f .before .before .before .before .before .if1 .left, field-within _ _ _ _ _ _ (sym (f .read-field2 .ensures) ∙ ap told (v .chains .given .1)) .1)
 
 returns-2 : tie.Need-returns-2
 returns-2 c =

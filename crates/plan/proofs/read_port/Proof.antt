@@ -6,7 +6,7 @@ use Rattle.model.specs.Limits.{portHighest, rangesMost}
 use Rattle.model.specs.Number.{numeral}
 use Rattle.numbers.specs.Told.{told}
 use Rattle.numbers.specs.Field.{fieldAt}
-use Rattle.plan.proofs.Fields.{field-within}
+use Rattle.numbers.proofs.Fields.{field-within}
 use Rattle.plan.proofs.Ports.{number-bad, count-bad, one-bad, one-got}
 use borrow.Author.Needs.{needs}
 use Rattle.plan.proofs.read_port.Statement.{statement}
