@@ -19,7 +19,7 @@ use Rattle.model.specs.Review.{mayPass, leftAfter, leftBehind, accepting, revie
 use Rattle.model.specs.Entries.{listIn, suspectsIn}
 use Rattle.model.proofs.EveryRule.{every-last}
 use Rattle.model.proofs.Placed.{readable-placed, list-placed}
-use Rattle.model.proofs.ReadBack.{words-append, length-words}
+use Rattle.model.proofs.ReadBack.{words-append, length-words, length-one, length-both}
 use Rattle.model.proofs.Sliced.{left-append}
 use Rattle.model.proofs.Success.{fine-is}
 use Rattle.model.proofs.SuspectsFit.{left-canonical, suspects-fit}
@@ -93,7 +93,7 @@ module _ {s words : List ℕ} {count port : ℕ} {suspects : Suspects} (x : Revi
   }
 
   all-words : (done rest : List ListRule) → done ++ rest ≡ list → length (wordsOf done) + length (wordsOf rest) ≡ count
-  all-words done rest e = sym (length-append (wordsOf done) (wordsOf rest)) ∙ ap length (sym (words-append done rest)) ∙ ap (λ l. length (wordsOf l)) e ∙ x .counted
+  all-words done rest e = sym (length-both done rest) ∙ ap (λ l. length (wordsOf l)) e ∙ x .counted
 
   placed : Listed (Placed s) list
   placed = let n = x .inputs in list-placed s (n .b) (fine-is (BookStands s) (readable s) (n .b) (readable-placed s) (n .is-book))
@@ -149,7 +149,6 @@ module _ {s words : List ℕ} {count port : ℕ} {suspects : Suspects} (x : Revi
       front-refuses rule source e = rule-refuses port (behind (l .done)) (f .rule) (f .others) rule source low′ high′ (taken (Refused rule source) e) ∙ f .same
 
       pub front-left : (m : ℕ) → t ≡ Left m → Rest (at + 3 + getD words (at + 2) 0) m low′ high′
-      unfolding wordsOf
       front-left m e =
           let k = taken (Left m) e in
           let r = f .rule in
@@ -161,8 +160,7 @@ module _ {s words : List ℕ} {count port : ℕ} {suspects : Suspects} (x : Revi
             done = on;
             rest = f .others;
             split = split;
-            place = ap length (words-append (l .done) (r ∷ []))
-                ∙ omega (arith, length-append (wordsOf (l .done)) (wordsOf (r ∷ [])), length-append (conditionWords (r .conditions)) [], length-words (r .conditions), l .place, f .stands .counted);
+            place = length-both (l .done) (r ∷ []) ∙ omega (arith, length-one r, l .place, f .stands .counted);
             slots = subst (λ ss. Slots spansMost ss m low′ high′) left
                 (⊎-elim (λ h. absurd (omega (arith, k .1 .over h, ap length left))) (λ h. k .1 .written h) (lt-or-le spansMost m));
             same = ap (λ ss. review port ss (f .others)) (sym left) ∙ sym (rule-leaves port (behind (l .done)) r (f .others) m low′ high′ k) ∙ f .same;
