@@ -60,12 +60,12 @@ fn operands(bytes: &mut Vec<u8>, level: u32, left: &mut Vec<[u32; 4]>, room: usi
 }
 
 /// One rule that drops what comes from none of 512 small ranges, each known not to hold by kind 1 and kind 3, under as many kinds 0 as
-/// a book has room for: every horizon costs a walk over the whole book.
-fn costly() -> Vec<u8> {
+/// there is room for: every horizon costs a walk over the whole book.
+fn costly(room: usize) -> Vec<u8> {
     let mut bytes = Vec::new();
     [1, 1, 1, 1, 1].into_iter().for_each(|n| write_number(&mut bytes, n));
     let mut left = (0..512).map(|range| [1, 3, range * 4 + 1, range * 4 + 2]).collect();
-    operands(&mut bytes, 1, &mut left, 65_000);
+    operands(&mut bytes, 1, &mut left, room);
     assert!(left.is_empty());
     bytes
 }
@@ -83,6 +83,20 @@ fn timed(runs: usize, mut f: impl FnMut()) -> Vec<f64> {
             before.elapsed().as_secs_f64() * 1e6
         })
         .collect()
+}
+
+/// One call over the costliest rule, in a book of about so many bytes.
+fn costliest(room: usize, words: &mut [u32]) {
+    let (book, plan, mut state) = (costly(room), [1, 1, 0, 0], [0; 1286]);
+    println!("book of {} bytes, {:?} chains and rules", book.len(), tannenlaut::check(&book).expect("a legal book"));
+    told("check", timed(51, || assert!(black_box(tannenlaut::check(&book)).is_ok())));
+    let (count, _) = tannenlaut::start(&book, &plan, 0, words, &mut state).expect("a port of the plan");
+    let (list, first) = (&words[..count as usize], state);
+    told("one slice over the costliest rule", timed(11, || {
+        state = first;
+        assert!(black_box(tannenlaut::step(&book, list, &mut state)).is_ok());
+    }));
+    println!("{} ranges of suspects after it", state[5]);
 }
 
 fn main() {
@@ -109,14 +123,6 @@ fn main() {
     println!("{rules} slices, 20 times; phase at the end {}; longest {longest:.2}", state[2]);
     told("one slice (reads the book, as public)", slices);
 
-    let (book, plan) = (costly(), [1, 1, 0, 0]);
-    println!("book of {} bytes, {:?} chains and rules", book.len(), tannenlaut::check(&book).expect("a legal book"));
-    told("check", timed(51, || assert!(black_box(tannenlaut::check(&book)).is_ok())));
-    let (count, _) = tannenlaut::start(&book, &plan, 0, &mut words, &mut state).expect("a port of the plan");
-    let (list, first) = (&words[..count as usize], state);
-    told("one slice over the costliest rule", timed(11, || {
-        state = first;
-        assert!(black_box(tannenlaut::step(&book, list, &mut state)).is_ok());
-    }));
-    println!("{} ranges of suspects after it", state[5]);
+    costliest(65_000, &mut words);
+    costliest(4_096, &mut words);
 }
