@@ -2,9 +2,9 @@
 use Prim.Native.Nat.{ℕ}
 use mathlib.Core.List.{List}
 use mathlib.Core.Path.{◌≡◌, sym, ◌∙◌}
-use Rattle.model.specs.Book.{bookOf}
-use Rattle.book.specs.Told.{bookAnswer}
+use Rattle.model.specs.Book.{book_of}
+use Rattle.book.specs.Told.{book_answer}
 use Rattle.book.specs.declared.BookAnswer.{BookAnswer}
 
-pub one-book-answer : (s : List ℕ) (a b : BookAnswer) → a ≡ bookAnswer (bookOf s) → b ≡ bookAnswer (bookOf s) → a ≡ b
-one-book-answer s a b p q = p ∙ sym q
+pub one_book_answer : (s : List ℕ) (a b : BookAnswer) → a ≡ book_answer (book_of s) → b ≡ book_answer (book_of s) → a ≡ b
+one_book_answer s a b p q = p ∙ sym q

@@ -1,10 +1,10 @@
 // Reads the chains of a book into the arrays of its contents.
 ghost use Rattle.std.specs.Prelude.{◌≡◌, [], ◌≤◌, length};
-ghost use Rattle.model.specs.Limits.{bookBytes, chainsMost};
+ghost use Rattle.model.specs.Limits.{book_bytes, chains_most};
 ghost use Rattle.model.specs.Reader.{each};
 ghost use Rattle.model.specs.Book.{chain};
 ghost use Rattle.expressions.specs.Told.{stand};
-ghost use Rattle.book.specs.Inner.{Finds, chainsTold};
+ghost use Rattle.book.specs.Inner.{Finds, chains_told};
 ghost use Rattle.book.specs.Held.{Charting};
 
 use super::rules::read_rules;
@@ -24,8 +24,8 @@ pub fn read_chains(
     expression: &mut [u32; RULES],
     end: &mut [u32; RULES],
 ) -> ChainsRead
-    requires { (length s.now ≤ bookBytes) × (chains ≤ chainsMost) × Charting [] first.old place.old action.old target.old expression.old end.old }
-    ensures answer { result ≡ chainsTold (each chains 0 (λ i. chain chains) s.now (stand at 0 0)) }
+    requires { (length s.now ≤ book_bytes) × (chains ≤ chains_most) × Charting [] first.old place.old action.old target.old expression.old end.old }
+    ensures answer { result ≡ chains_told (each chains 0 (λ i. chain chains) s.now (stand at 0 0)) }
     ensures charted { Finds (each chains 0 (λ i. chain chains) s.now (stand at 0 0)) (λ cs. Charting cs first.new place.new action.new target.new expression.new end.new) }
 {
     let mut next = at;

@@ -1,10 +1,10 @@
 // Reads a book: the whole grammar of document 01, refusals 1 to 8.
 ghost use Rattle.std.specs.Prelude.{◌≡◌, ◌≤◌, length};
-ghost use Rattle.model.specs.Limits.{bookBytes, chainsMost};
-ghost use Rattle.model.specs.Book.{bookOf};
+ghost use Rattle.model.specs.Limits.{book_bytes, chains_most};
+ghost use Rattle.model.specs.Book.{book_of};
 ghost use Rattle.expressions.specs.Told.{stand};
-ghost use Rattle.book.specs.Told.{refusedBook, bookAnswer};
-ghost use Rattle.book.specs.Inner.{behindPolicy, behindChains};
+ghost use Rattle.book.specs.Told.{refused_book, book_answer};
+ghost use Rattle.book.specs.Inner.{behind_policy, behind_chains};
 
 use chains::read_chains;
 use numbers::{NumberRead, read_field};
@@ -88,7 +88,7 @@ pub enum ChainsRead {
 }
 
 fn refused(n: u32, at: usize) -> BookAnswer
-    ensures { result ≡ refusedBook n at }
+    ensures { result ≡ refused_book n at }
 {
     let contents = Contents {
         policy: 0,
@@ -109,8 +109,8 @@ fn refused(n: u32, at: usize) -> BookAnswer
 
 // The book from its first chain on.
 fn read_behind_policy(s: &[u8], at: usize, chains: u32, policy: u32) -> BookAnswer
-    requires { (length s.now ≤ bookBytes) × (chains ≤ chainsMost) }
-    ensures { result ≡ bookAnswer (behindPolicy chains policy s.now (stand at 0 0)) }
+    requires { (length s.now ≤ book_bytes) × (chains ≤ chains_most) }
+    ensures { result ≡ book_answer (behind_policy chains policy s.now (stand at 0 0)) }
 {
     let mut first = [0u32; STARTS];
     let mut place = [0u32; RULES];
@@ -155,8 +155,8 @@ fn read_behind_policy(s: &[u8], at: usize, chains: u32, policy: u32) -> BookAnsw
 
 // The book from its policy on.
 fn read_behind_chains(s: &[u8], at: usize, chains: u32) -> BookAnswer
-    requires { (length s.now ≤ bookBytes) × (chains ≤ chainsMost) }
-    ensures { result ≡ bookAnswer (behindChains chains s.now (stand at 0 0)) }
+    requires { (length s.now ≤ book_bytes) × (chains ≤ chains_most) }
+    ensures { result ≡ book_answer (behind_chains chains s.now (stand at 0 0)) }
 {
     match read_field(s, at, 0, 1) {
         NumberRead::Refused(n) => refused(n, at),
@@ -165,7 +165,7 @@ fn read_behind_chains(s: &[u8], at: usize, chains: u32) -> BookAnswer
 }
 
 pub fn read_book(s: &[u8]) -> BookAnswer
-    ensures { result ≡ bookAnswer (bookOf s.now) }
+    ensures { result ≡ book_answer (book_of s.now) }
 {
     if BYTES < s.len() {
         return refused(1, 0);

@@ -1,11 +1,11 @@
 // Reads a rule and the rules of a chain, and notes each as it is read.
 ghost use Rattle.std.specs.Prelude.{◌≡◌, List, [], ◌∷◌, ◌++◌, ℕ, ◌<◌, ◌≤◌, ◌-◌, length};
-ghost use Rattle.model.specs.Limits.{bookBytes, chainsMost, rulesMost};
+ghost use Rattle.model.specs.Limits.{book_bytes, chains_most, rules_most};
 ghost use Rattle.model.specs.Tree.{Rule};
 ghost use Rattle.model.specs.Reader.{each};
-ghost use Rattle.model.specs.Book.{actionIn, rule};
+ghost use Rattle.model.specs.Book.{action_in, rule};
 ghost use Rattle.expressions.specs.Told.{told, stand};
-ghost use Rattle.book.specs.Inner.{Finds, actionTold, call_in, ruleTold};
+ghost use Rattle.book.specs.Inner.{Finds, action_told, call_in, rule_told};
 ghost use Rattle.book.specs.Held.{Held, Small, Seen};
 
 use super::{ActionRead, ChainNumber, RULES, RuleRead, RuleSeen};
@@ -14,7 +14,7 @@ use numbers::{NumberRead, read_number};
 
 // The chain that a call names. The entry can't be called.
 pub fn read_called(s: &[u8], at: usize, chains: u32) -> ActionRead
-    ensures { (rules sources : ℕ) → result ≡ actionTold (call_in chains s.now (stand at rules sources)) }
+    ensures { (rules sources : ℕ) → result ≡ action_told (call_in chains s.now (stand at rules sources)) }
 {
     match read_number(s, at) {
         NumberRead::Refused(n) => ActionRead::Refused(n, at),
@@ -31,7 +31,7 @@ pub fn read_called(s: &[u8], at: usize, chains: u32) -> ActionRead
 }
 
 pub fn read_action(s: &[u8], at: usize, chains: u32) -> ActionRead
-    ensures { (rules sources : ℕ) → result ≡ actionTold (actionIn chains s.now (stand at rules sources)) }
+    ensures { (rules sources : ℕ) → result ≡ action_told (action_in chains s.now (stand at rules sources)) }
 {
     match read_number(s, at) {
         NumberRead::Refused(n) => ActionRead::Refused(n, at),
@@ -48,7 +48,7 @@ pub fn read_action(s: &[u8], at: usize, chains: u32) -> ActionRead
 }
 
 pub fn read_rule(s: &[u8], at: usize, chains: u32, sources: u32) -> RuleRead
-    ensures { (i rules : ℕ) → result ≡ ruleTold (rule chains i s.now (stand at rules sources)) }
+    ensures { (i rules : ℕ) → result ≡ rule_told (rule chains i s.now (stand at rules sources)) }
 {
     match read_action(s, at, chains) {
         ActionRead::Refused(n, p) => RuleRead::Refused(n, p),
@@ -78,7 +78,7 @@ pub fn note_rule(
     expression: &mut [u32; RULES],
     end: &mut [u32; RULES],
 )
-    requires { (i < rulesMost) × Small at seen }
+    requires { (i < rules_most) × Small at seen }
     ensures { (done : List Rule) → length done ≡ i → Held done place.old action.old target.old expression.old end.old → (new : Rule) → Seen at seen new → Held (done ++ new ∷ []) place.new action.new target.new expression.new end.new }
 {
     let called = seen.called;
@@ -103,7 +103,7 @@ pub fn read_rules(
     expression: &mut [u32; RULES],
     end: &mut [u32; RULES],
 ) -> ExpressionRead
-    requires { (length s.now ≤ bookBytes) × (chains ≤ chainsMost) × (last ≤ rulesMost) }
+    requires { (length s.now ≤ book_bytes) × (chains ≤ chains_most) × (last ≤ rules_most) }
     ensures answer { result ≡ told (each (last - first) first (rule chains) s.now (stand at last sources)) }
     ensures noted { (done : List Rule) → length done ≡ first → Held done place.old action.old target.old expression.old end.old → Finds (each (last - first) first (rule chains) s.now (stand at last sources)) (λ new. Held (done ++ new) place.new action.new target.new expression.new end.new) }
 {

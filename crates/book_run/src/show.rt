@@ -1,6 +1,6 @@
 // Checks a book and writes what was found: the counts, or the refusal.
 ghost use Rattle.std.specs.Prelude.{◌≤◌, ◌<◌};
-ghost use Rattle.model.specs.Limits.{chainsMost, rulesMost};
+ghost use Rattle.model.specs.Limits.{chains_most, rules_most};
 
 use book::{Contents, STARTS};
 use checking::{Reading, check};
@@ -48,7 +48,7 @@ pub fn show_part(name: &[u8], b: &[u8], n: usize) {
 }
 
 fn firsts(first: [u32; STARTS], chains: usize)
-    requires { chains ≤ chainsMost }
+    requires { chains ≤ chains_most }
 {
     io::write_all(1, b" | first");
     let mut c = 0;
@@ -60,7 +60,7 @@ fn firsts(first: [u32; STARTS], chains: usize)
 
 // A rule: its number, its action and the chain that it calls, and where it, its expression and what follows it start.
 fn rule(contents: Contents, i: usize)
-    requires { i < rulesMost }
+    requires { i < rules_most }
 {
     let action = contents.action;
     let target = contents.target;
@@ -76,7 +76,7 @@ fn rule(contents: Contents, i: usize)
 }
 
 fn rules(contents: Contents, from: usize)
-    requires { contents.rules ≤ rulesMost }
+    requires { contents.rules ≤ rules_most }
 {
     let rules = contents.rules;
     let mut i = from;

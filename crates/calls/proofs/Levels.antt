@@ -9,19 +9,19 @@ use lib.ListN.{length, get_or, set, replicate, length-set, length-replicate, get
 use lib.Seq.{get_or-set_same, get_or-set_other}
 use lib.Dec.{eqb, ltb}
 use borrow.Author.Tests.{eqb-true, eqb-false, lt-ltb, le-ltb}
-use Rattle.book.specs.Contents.{Shape, rulesIn}
-use Rattle.calls.specs.Actions.{weighAt}
+use Rattle.book.specs.Contents.{Shape, rules_in}
+use Rattle.calls.specs.Actions.{weigh_at}
 use Rattle.calls.specs.Weights.{capped, AllCapped, Weighed, Ranked, Weighing, Upto}
-use Rattle.model.specs.Limits.{chainsMost, weightMost}
+use Rattle.model.specs.Limits.{chains_most, weight_most}
 use Rattle.calls.specs.Heavy.{heavy}
 use Rattle.calls.proofs.Bools.{same}
 
-pub none-weighed : AllCapped (replicate chainsMost 0)
-none-weighed = record { size = length-replicate {A = ℕ} chainsMost 0; most = λ c. elim (dec_lt c chainsMost) [ yes lt ↦ rw (get_or-replicate {A = ℕ} chainsMost c 0 0 lt) (omega arith) | no ge ↦ rw (get_or-eq_default {A = ℕ} (replicate chainsMost 0) 0 {n = c} (omega (arith, length-replicate {A = ℕ} chainsMost 0))) (omega arith) ] }
+pub none_weighed : AllCapped (replicate chains_most 0)
+none_weighed = record { size = length-replicate {A = ℕ} chains_most 0; most = λ c. elim (dec_lt c chains_most) [ yes lt ↦ rw (get_or-replicate {A = ℕ} chains_most c 0 0 lt) (omega arith) | no ge ↦ rw (get_or-eq_default {A = ℕ} (replicate chains_most 0) 0 {n = c} (omega (arith, length-replicate {A = ℕ} chains_most 0))) (omega arith) ] }
 
-module _ (weights : List ℕ) (all : AllCapped weights) (c v : ℕ) (lt : c < chainsMost) where
-  pub capped-set : v ≤ heavy → AllCapped (set weights c v)
-  capped-set h = record {
+module _ (weights : List ℕ) (all : AllCapped weights) (c v : ℕ) (lt : c < chains_most) where
+  pub capped_set : v ≤ heavy → AllCapped (set weights c v)
+  capped_set h = record {
     size = length-set weights c v ∙ all.size;
     most = λ x. elim (ℕ_discrete x c) [
       | yes e ↦ rw (e, get_or-set_same weights c v 0 (rw all.size lt)) h
@@ -35,17 +35,17 @@ module _ (first action target : List ℕ) (chains rules level : ℕ) (shape : Sh
     pub lower : Upto chains rank w level weights
     pub here : (x : ℕ) → x < chains → rank x ≡ level → x < c → get_or weights x 0 ≡ capped (w x)
 
-  pub level-first : (weights : List ℕ) → Upto chains rank w level weights → Level 0 weights
-  level-first weights h = record { lower = h; here = λ x lt e l. absurd (omega arith) }
+  pub level_first : (weights : List ℕ) → Upto chains rank w level weights → Level 0 weights
+  level_first weights h = record { lower = h; here = λ x lt e l. absurd (omega arith) }
 
   module _ (weights : List ℕ) (c : ℕ) (lt : c < chains) (h : Level c weights) where
-    pub calls-weighed : rank c ≡ level → Weighed first action target w weights c
-    calls-weighed e i a l q =
+    pub calls_weighed : rank c ≡ level → Weighed first action target w weights c
+    calls_weighed e i a l q =
         let f = by.ranked.falls c i lt a l q in
         h.lower (get_or target i 0) (shape.known i (omega (arith, shape.inside c lt)) q) (omega arith)
 
-    pub level-weighed : AllCapped weights → rank c ≡ level → (v : ℕ) → v ≡ capped (weighAt action target w (get_or first c 0) (rulesIn first c)) → Level (c + 1) (set weights c v)
-    level-weighed all e v q =
+    pub level_weighed : AllCapped weights → rank c ≡ level → (v : ℕ) → v ≡ capped (weigh_at action target w (get_or first c 0) (rules_in first c)) → Level (c + 1) (set weights c v)
+    level_weighed all e v q =
         let size : c < length weights = rw all.size (omega (arith, shape.few)) in
         record {
           lower = λ x l r. get_or-set_other weights c x v 0 (λ s. omega (arith, ap rank s)) ∙ h.lower x l r;
@@ -55,26 +55,26 @@ module _ (first action target : List ℕ) (chains rules level : ℕ) (shape : Sh
           ];
         }
 
-    pub level-skipped : rank c ≢ level → Level (c + 1) weights
-    level-skipped n = record { lower = h.lower; here = λ x l r b. elim (ℕ_discrete x c) [ yes s ↦ absurd (n (ap rank (sym s) ∙ r)) | no ne ↦ h.here x l r (omega arith) ] }
+    pub level_skipped : rank c ≢ level → Level (c + 1) weights
+    level_skipped n = record { lower = h.lower; here = λ x l r b. elim (ℕ_discrete x c) [ yes s ↦ absurd (n (ap rank (sym s) ∙ r)) | no ne ↦ h.here x l r (omega arith) ] }
 
-  pub level-done : (weights : List ℕ) (c : ℕ) → chains ≤ c → Level c weights → Upto chains rank w (level + 1) weights
-  level-done weights c ge h x l r = elim (ℕ_discrete (rank x) level) [ yes e ↦ h.here x l e (omega arith) | no ne ↦ h.lower x l (omega arith) ]
+  pub level_done : (weights : List ℕ) (c : ℕ) → chains ≤ c → Level c weights → Upto chains rank w (level + 1) weights
+  level_done weights c ge h x l r = elim (ℕ_discrete (rank x) level) [ yes e ↦ h.here x l e (omega arith) | no ne ↦ h.lower x l (omega arith) ]
 
 -- another writing of the ranks serves as well
-pub same-ranks : {first action target : List ℕ} {chains rules : ℕ} {rank : ℕ → ℕ} (r : ℕ → ℕ) → Shape first action target chains rules → ((c : ℕ) → c < chains → r c ≡ rank c)
+pub same_ranks : {first action target : List ℕ} {chains rules : ℕ} {rank : ℕ → ℕ} (r : ℕ → ℕ) → Shape first action target chains rules → ((c : ℕ) → c < chains → r c ≡ rank c)
     → Ranked first action target chains rank → Ranked first action target chains r
-same-ranks r shape e by = record {
+same_ranks r shape e by = record {
   falls = λ c i lt a l q. omega (arith, e c lt, e _ (shape.known i (omega (arith, shape.inside c lt)) q), by.falls c i lt a l q);
   below = λ c lt. omega (arith, e c lt, by.below c lt);
 }
 
 -- the ranks of the chains below c are written
-pub ranked-next : (all : List ℕ) (rank : ℕ → ℕ) (c v : ℕ) → c < length all → v ≡ rank c → ((x : ℕ) → x < c → get_or all x 0 ≡ rank x) → (x : ℕ) → x < c + 1 → get_or (set all c v) x 0 ≡ rank x
-ranked-next all rank c v lt e h x l = elim (ℕ_discrete x c) [
+pub ranked_next : (all : List ℕ) (rank : ℕ → ℕ) (c v : ℕ) → c < length all → v ≡ rank c → ((x : ℕ) → x < c → get_or all x 0 ≡ rank x) → (x : ℕ) → x < c + 1 → get_or (set all c v) x 0 ≡ rank x
+ranked_next all rank c v lt e h x l = elim (ℕ_discrete x c) [
   | yes s ↦ rw (s, get_or-set_same all c v 0 lt) e
   | no ne ↦ get_or-set_other all c x v 0 ne ∙ h x (omega arith)
 ]
 
-pub too-heavy : (n v : ℕ) → v ≡ capped n → eqb v heavy ≡ ltb weightMost n
-too-heavy n v e = same (eqb v heavy) (ltb weightMost n) (λ q. let f = eqb-true v heavy q in lt-ltb weightMost n (omega arith)) (λ q. let f = eqb-false v heavy q in le-ltb weightMost n (omega arith))
+pub too_heavy : (n v : ℕ) → v ≡ capped n → eqb v heavy ≡ ltb weight_most n
+too_heavy n v e = same (eqb v heavy) (ltb weight_most n) (λ q. let f = eqb-true v heavy q in lt-ltb weight_most n (omega arith)) (λ q. let f = eqb-false v heavy q in le-ltb weight_most n (omega arith))

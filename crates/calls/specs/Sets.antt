@@ -1,7 +1,7 @@
 -- Sets of chains as bits of words, and a table with one set for each chain. Only this file says where a set's bits lie.
 use Rattle.std.specs.Prelude.{ℕ, ◌/◌, ◌%◌, ◌^◌, ◌<◌, ◌≡◌, Bool, ◌&&◌, ◌||◌, List, length, get_or, eqb}
 use Rattle.std.specs.Int.Count.{ones}
-use Rattle.model.specs.Limits.{chainsMost}
+use Rattle.model.specs.Limits.{chains_most}
 
 abbrev pub bit : ℕ → ℕ → ℕ
 bit x i = x / 2 ^ i % 2
@@ -20,12 +20,12 @@ Relation = ℕ → ℕ → Bool
 
 -- a table has the bits of a relation on the numbers of chains
 abbrev pub Table : List ℕ → Relation → Type 0
-Table sets r = (c d : ℕ) → c < chainsMost → d < chainsMost → in_row sets c d ≡ r c d
+Table sets r = (c d : ℕ) → c < chains_most → d < chains_most → in_row sets c d ≡ r c d
 
 -- a word for each chain, with a bit for each
 pub record Fit (sets : List ℕ) : Type 0 where
-  pub size : length sets ≡ chainsMost
-  pub words : (c : ℕ) → get_or sets c 0 < 2 ^ chainsMost
+  pub size : length sets ≡ chains_most
+  pub words : (c : ℕ) → get_or sets c 0 < 2 ^ chains_most
 
 pub record Holds (sets : List ℕ) (r : Relation) : Type 0 where
   pub fit : Fit sets

@@ -2,14 +2,14 @@
 ghost use Rattle.std.specs.Prelude.{◌≡◌, ◌&&◌, ◌||◌, ℕ, ◌+◌, ◌^◌, ◌<◌, ◌≤◌, length, get_or, eqb, ltb};
 ghost use Rattle.model.specs.Tree.{Book};
 ghost use Rattle.model.specs.Reader.{Stand, got};
-ghost use Rattle.model.specs.Calls.{LoopFree, lowestLoop, weight, checked};
-ghost use Rattle.model.specs.Limits.{chainsMost, weightMost};
+ghost use Rattle.model.specs.Calls.{LoopFree, lowest_loop, weight, checked};
+ghost use Rattle.model.specs.Limits.{chains_most, weight_most};
 ghost use Rattle.calls.specs.Heavy.{heavy};
 ghost use Rattle.calls.specs.Sets.{has, in_row, Table, Added, Joined, Passed, rank_of, Fit, Holds};
-ghost use Rattle.book.specs.Contents.{Shape, rulesIn};
-ghost use Rattle.calls.specs.Actions.{Actions, callsIn, weighAt};
+ghost use Rattle.book.specs.Contents.{Shape, rules_in};
+ghost use Rattle.calls.specs.Actions.{Actions, calls_in, weigh_at};
 ghost use Rattle.calls.specs.Reached.{calls, reach, Reached};
-ghost use Rattle.calls.specs.Weights.{rankIn, capped, AllCapped, Weighed, Weighing, Upto};
+ghost use Rattle.calls.specs.Weights.{rank_in, capped, AllCapped, Weighed, Weighing, Upto};
 ghost use Rattle.calls.specs.Checked.{loop_of, answer_of};
 
 use book::{CHAINS, ChainNumber, RULES, STARTS};
@@ -39,28 +39,28 @@ pub enum CallCheck {
 
 // The set x with d.
 fn with(x: u64, d: usize) -> u64
-    requires { (d < chainsMost) × (x < 2 ^ chainsMost) }
-    ensures { (result < 2 ^ chainsMost) × ((e : ℕ) → has result e ≡ has x e || eqb e d) }
+    requires { (d < chains_most) × (x < 2 ^ chains_most) }
+    ensures { (result < 2 ^ chains_most) × ((e : ℕ) → has result e ≡ has x e || eqb e d) }
 {
     x | (1u64 << d)
 }
 
 fn holds(sets: &[u64; CHAINS], c: usize, d: usize) -> bool
-    requires { (c < chainsMost) × (d < chainsMost) }
+    requires { (c < chains_most) × (d < chains_most) }
     ensures { result ≡ in_row sets.now c d }
 {
     (sets[c] >> d) % 2 == 1
 }
 
 fn add(sets: &mut [u64; CHAINS], c: usize, d: usize)
-    requires { Fit sets.old × (c < chainsMost) × (d < chainsMost) }
+    requires { Fit sets.old × (c < chains_most) × (d < chains_most) }
     ensures { Added c d sets.old sets.new }
 {
     sets[c] = with(sets[c], d);
 }
 
 fn join(sets: &mut [u64; CHAINS], a: usize, k: usize)
-    requires { Fit sets.old × (a < chainsMost) × (k < chainsMost) }
+    requires { Fit sets.old × (a < chains_most) × (k < chains_most) }
     ensures { Joined a k sets.old sets.new }
 {
     sets[a] = sets[a] | sets[k];
@@ -68,7 +68,7 @@ fn join(sets: &mut [u64; CHAINS], a: usize, k: usize)
 
 // Whatever has k in its set takes k's set.
 fn pass(sets: &mut [u64; CHAINS], k: usize)
-    requires { Fit sets.old × (k < chainsMost) }
+    requires { Fit sets.old × (k < chains_most) }
     ensures { Passed k sets.old sets.new }
 {
     let mut a: usize = 0;
@@ -82,7 +82,7 @@ fn pass(sets: &mut [u64; CHAINS], k: usize)
 
 // Warshall's closure of the first sets.
 fn close(sets: &mut [u64; CHAINS], chains: usize)
-    requires { Fit sets.old × (chains ≤ chainsMost) }
+    requires { Fit sets.old × (chains ≤ chains_most) }
     ensures { Holds sets.new (reach (in_row sets.old) chains) }
 {
     let mut k: usize = 0;
@@ -103,7 +103,7 @@ fn add_calls<'a>(
     sets: &mut [u64; CHAINS],
 )
     requires { Shape first.now action.now target.now chains rules × (c < chains) × Fit sets.old }
-    ensures { Holds sets.new (λ x e. in_row sets.old x e || (eqb x c && callsIn first.now action.now target.now c e)) }
+    ensures { Holds sets.new (λ x e. in_row sets.old x e || (eqb x c && calls_in first.now action.now target.now c e)) }
 {
     let end = first[c + 1] as usize;
     let mut i = first[c] as usize;
@@ -151,7 +151,7 @@ pub fn reached<'a>(
 
 // The chains that are in their own set.
 fn looping(sets: &[u64; CHAINS]) -> u64
-    ensures { (result < 2 ^ chainsMost) × ((d : ℕ) → d < chainsMost → has result d ≡ in_row sets.now d d) }
+    ensures { (result < 2 ^ chains_most) × ((d : ℕ) → d < chains_most → has result d ≡ in_row sets.now d d) }
 {
     let mut out: u64 = 0;
     let mut c: usize = 0;
@@ -166,7 +166,7 @@ fn looping(sets: &[u64; CHAINS]) -> u64
 
 // Refusal 9's chain.
 pub fn lowest_loop(sets: &[u64; CHAINS]) -> Loops
-    ensures { (b : Book) → length b.chains ≤ chainsMost → Reached b sets.now → loop_of result ≡ lowestLoop (length b.chains) 0 b }
+    ensures { (b : Book) → length b.chains ≤ chains_most → Reached b sets.now → loop_of result ≡ lowest_loop (length b.chains) 0 b }
 {
     let out = looping(sets);
     if out == 0 {
@@ -177,7 +177,7 @@ pub fn lowest_loop(sets: &[u64; CHAINS]) -> Loops
 
 // How many chains c reaches.
 pub fn rank(sets: &[u64; CHAINS], c: usize) -> u32
-    requires { c < chainsMost }
+    requires { c < chains_most }
     ensures { result ≡ rank_of sets.now c }
 {
     u64::count_ones(sets[c])
@@ -206,7 +206,7 @@ fn weigh<'a>(
     weights: &[u32; CHAINS],
 ) -> u32
     requires { Shape first.now action.now target.now chains rules × (c < chains) × AllCapped weights.now }
-    ensures { (result ≤ heavy) × ((w : ℕ → ℕ) → Weighed first.now action.now target.now w weights.now c → result ≡ capped (weighAt action.now target.now w (get_or first.now c 0) (rulesIn first.now c))) }
+    ensures { (result ≤ heavy) × ((w : ℕ → ℕ) → Weighed first.now action.now target.now w weights.now c → result ≡ capped (weigh_at action.now target.now w (get_or first.now c 0) (rules_in first.now c))) }
 {
     let end = first[c + 1] as usize;
     let mut i = first[c] as usize;
@@ -224,7 +224,7 @@ fn weigh<'a>(
 
 // How many chains each chain reaches: without loops it falls at each call.
 pub fn ranks(sets: &[u64; CHAINS], chains: usize) -> [u32; CHAINS]
-    requires { chains ≤ chainsMost }
+    requires { chains ≤ chains_most }
     ensures { (c : ℕ) → c < chains → get_or result c 0 ≡ rank_of sets.now c }
 {
     let mut all = [0u32; CHAINS];
@@ -248,7 +248,7 @@ fn weigh_rank<'a>(
     weights: &mut [u32; CHAINS],
 )
     requires { Shape first.now action.now target.now chains rules × AllCapped weights.old }
-    ensures { AllCapped weights.new × ((w : ℕ → ℕ) → Weighing first.now action.now target.now chains (rankIn ranks.now) w → Upto chains (rankIn ranks.now) w level weights.old → Upto chains (rankIn ranks.now) w (level + 1) weights.new) }
+    ensures { AllCapped weights.new × ((w : ℕ → ℕ) → Weighing first.now action.now target.now chains (rank_in ranks.now) w → Upto chains (rank_in ranks.now) w level weights.old → Upto chains (rank_in ranks.now) w (level + 1) weights.new) }
 {
     let mut c: usize = 0;
     while c < chains {
@@ -268,7 +268,7 @@ fn weights<'a>(
     rules: usize,
 ) -> [u32; CHAINS]
     requires { Shape first.now action.now target.now chains rules }
-    ensures { (w : ℕ → ℕ) → Weighing first.now action.now target.now chains (rankIn ranks.now) w → (c : ℕ) → c < chains → get_or result c 0 ≡ capped (w c) }
+    ensures { (w : ℕ → ℕ) → Weighing first.now action.now target.now chains (rank_in ranks.now) w → (c : ℕ) → c < chains → get_or result c 0 ≡ capped (w c) }
 {
     let mut all = [0u32; CHAINS];
     let mut level: u32 = 0;
@@ -289,7 +289,7 @@ pub fn too_heavy<'a>(
     rules: usize,
 ) -> bool
     requires { Shape first.now action.now target.now chains rules }
-    ensures { (b : Book) → Actions b first.now action.now target.now chains rules → Reached b sets.now → LoopFree b → result ≡ ltb weightMost (weight (length b.chains) b 0) }
+    ensures { (b : Book) → Actions b first.now action.now target.now chains rules → Reached b sets.now → LoopFree b → result ≡ ltb weight_most (weight (length b.chains) b 0) }
 {
     let order = ranks(sets, chains);
     let all = weights(first, action, target, &order, chains, rules);

@@ -4,12 +4,12 @@ use mathlib.Core.Path.{◌≡◌, refl, ap, ◌∙◌}
 use mathlib.Core.List.{List}
 use native.Mathlib.Omega.{arith}
 use lib.ListN.{length}
-use Rattle.model.specs.Limits.{sourcesMost}
+use Rattle.model.specs.Limits.{sources_most}
 use Rattle.model.specs.Reader.{Stand, Read, got, refused}
 use Rattle.model.specs.Tree.{Expr}
 use Rattle.model.specs.Book.{expression}
 use Rattle.model.proofs.Success as success
-use Rattle.model.proofs.BookRead.{ExpressionRead, expression-got}
+use Rattle.model.proofs.BookRead.{ExpressionRead, expression_got}
 use Rattle.expressions.specs.Told.{told, stand}
 use Rattle.expressions.specs.declared.ExpressionRead.TheVariants.{Got, Refused}
 
@@ -19,10 +19,10 @@ pub record Found (levels : ℕ) (s : List ℕ) (st : Stand) (next sources : ℕ)
   pub reads : expression levels s st ≡ got expr (stand next st.rules sources)
   pub on : st.at < next
   pub inside : next ≤ length s
-  pub few : st.sources ≤ sourcesMost → sources ≤ sourcesMost
+  pub few : st.sources ≤ sources_most → sources ≤ sources_most
 
 pub found : (levels : ℕ) (s : List ℕ) (st : Stand) (next sources : ℕ) → told (expression levels s st) ≡ Got next sources → Found levels s st next sources
-found levels s st next sources e = go (expression levels s st) refl (expression-got levels s st) e
+found levels s st next sources e = go (expression levels s st) refl (expression_got levels s st) e
   where
     go : (m : Read Expr) → expression levels s st ≡ m → success.Got m (λ x st'. ExpressionRead s st x st') → told m ≡ Got next sources → Found levels s st next sources
     go (got x st') q p t =
@@ -32,6 +32,6 @@ found levels s st next sources e = go (expression levels s st) refl (expression-
     go (refused n place) q p t = let z : ◌≡◌ {A = ℕ} 0 1 = cc in absurd (omega arith)
 
 -- and an answer `Refused`: the model refuses with that number, at that place
-pub told-refusal : {A : Type 0} (m : Read A) (n place : ℕ) → told m ≡ Refused n place → m ≡ refused n place
-told-refusal (got a st) n place e = let z : ◌≡◌ {A = ℕ} 0 1 = cc in absurd (omega arith)
-told-refusal (refused x y) n place e = cc
+pub told_refusal : {A : Type 0} (m : Read A) (n place : ℕ) → told m ≡ Refused n place → m ≡ refused n place
+told_refusal (got a st) n place e = let z : ◌≡◌ {A = ℕ} 0 1 = cc in absurd (omega arith)
+told_refusal (refused x y) n place e = cc

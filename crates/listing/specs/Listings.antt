@@ -4,9 +4,9 @@ use Rattle.model.specs.Answer.{Answer, fine, refused, ◌>>=◌}
 use Rattle.model.specs.Tree.{Book}
 use Rattle.model.specs.Calls.{readable}
 use Rattle.model.specs.Entries.{room, Counts, counted, filled}
-use Rattle.book.specs.Contents.{contentsOf}
+use Rattle.book.specs.Contents.{contents_of}
 use Rattle.book.specs.declared.Contents.{Contents}
-use Rattle.calls.specs.Weights.{rankIn, Ranked}
+use Rattle.calls.specs.Weights.{rank_in, Ranked}
 use Rattle.listing.specs.declared.Listed.{Listed}
 use Rattle.listing.specs.declared.Listed.TheVariants as listed
 
@@ -20,12 +20,12 @@ pub record Ready (c : Contents) (ranks : List ℕ) : Type 0 where
   pub bytes : List ℕ
   pub book : Book
   pub read : readable bytes ≡ fine book
-  pub contents : c ≡ contentsOf book
-  pub ranked : Ranked c.first c.action c.target c.chains (rankIn ranks)
+  pub contents : c ≡ contents_of book
+  pub ranked : Ranked c.first c.action c.target c.chains (rank_in ranks)
 
 -- the counts of b's list where the lent words have room for it
-abbrev pub countsOf : Book → ℕ → Answer Counts
-countsOf b lent = do
+abbrev pub counts_of : Book → ℕ → Answer Counts
+counts_of b lent = do
   list ← room lent b
   fine (counted list)
 
@@ -35,5 +35,5 @@ left (fine c) b lent = filled lent (fine b)
 left (refused n p) b lent = lent
 
 pub record Lists (b : Book) (before : List ℕ) (r : Listed) (after : List ℕ) : Type 0 where
-  pub answer : told r ≡ countsOf b (length before)
-  pub lent : after ≡ left (countsOf b (length before)) b before
+  pub answer : told r ≡ counts_of b (length before)
+  pub lent : after ≡ left (counts_of b (length before)) b before

@@ -3,8 +3,8 @@ ghost use Rattle.std.specs.Prelude.{◌≡◌, List, ℕ, length};
 ghost use Rattle.model.specs.Answer.{fine};
 ghost use Rattle.model.specs.Tree.{Book};
 ghost use Rattle.model.specs.Calls.{readable};
-ghost use Rattle.model.specs.Entries.{unfoldEntry, wordsAfter};
-ghost use Rattle.book.specs.Contents.{contentsOf};
+ghost use Rattle.model.specs.Entries.{unfold_entry, words_after};
+ghost use Rattle.book.specs.Contents.{contents_of};
 ghost use Rattle.listing.specs.Listings.{told, Ready, Lists};
 
 use book::{CHAINS, Contents};
@@ -22,7 +22,7 @@ pub enum Listed {
 // Of a book that was read: the need is known before the first word is written, so that 13 leaves all words as they were.
 pub fn list_book(contents: Contents, ranks: [u32; CHAINS], words: &mut [u32]) -> Listed
     requires { Ready contents ranks }
-    ensures { (s : List ℕ) (b : Book) → readable s ≡ fine b → contents ≡ contentsOf b → Lists b words.old result words.new }
+    ensures { (s : List ℕ) (b : Book) → readable s ≡ fine b → contents ≡ contents_of b → Lists b words.old result words.new }
 {
     let chains = contents.chains;
     let rules = contents.rules;
@@ -53,8 +53,8 @@ pub fn list_book(contents: Contents, ranks: [u32; CHAINS], words: &mut [u32]) ->
 
 // UNFOLDING, the entry.
 pub fn unfold_book(book: &[u8], words: &mut [u32]) -> Listed
-    ensures answer { told result ≡ unfoldEntry book.now (length words.old) }
-    ensures lent { words.new ≡ wordsAfter (unfoldEntry book.now (length words.old)) book.now words.old }
+    ensures answer { told result ≡ unfold_entry book.now (length words.old) }
+    ensures lent { words.new ≡ words_after (unfold_entry book.now (length words.old)) book.now words.old }
 {
     let checked = check(book);
     let reading = checked.reading;

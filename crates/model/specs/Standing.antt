@@ -21,19 +21,19 @@ pub record Joined (P Q : ℕ → Type 0) : Type 0 where
   pub rest : Q middle
 
 -- the table: the kind of an expression, and the fields of a leaf
-abbrev pub leafKind : Leaf → ℕ
-leafKind (source low high) = 3
-leafKind (port p) = 4
-leafKind (destination low high) = 5
-leafKind (protocol n) = 6
-leafKind (service low high) = 7
-leafKind (unread k) = 8
+abbrev pub leaf_kind : Leaf → ℕ
+leaf_kind (source low high) = 3
+leaf_kind (port p) = 4
+leaf_kind (destination low high) = 5
+leaf_kind (protocol n) = 6
+leaf_kind (service low high) = 7
+leaf_kind (unread k) = 8
 
 abbrev pub kind_of : Expr → ℕ
 kind_of (always at) = 0
 kind_of (negation at e) = 1
 kind_of (conjunction at es) = 2
-kind_of (leaf at l) = leafKind l
+kind_of (leaf at l) = leaf_kind l
 
 abbrev pub fields : Leaf → List ℕ
 fields (source low high) = low ∷ high ∷ []
@@ -87,20 +87,20 @@ pub record Placed (s : List ℕ) (e : Expr) : Type 0 where
   pub stands : Stands s (place_of e) e next
 
 -- the numbers ahead of a rule's expression: its action, and for a call the called chain
-abbrev pub actionRow : Action → List ℕ
-actionRow accept = 0 ∷ []
-actionRow drop = 1 ∷ []
-actionRow reject = 2 ∷ []
-actionRow log = 3 ∷ []
-actionRow empty = 4 ∷ []
-actionRow return = 5 ∷ []
-actionRow (call c) = 6 ∷ c ∷ []
+abbrev pub action_row : Action → List ℕ
+action_row accept = 0 ∷ []
+action_row drop = 1 ∷ []
+action_row reject = 2 ∷ []
+action_row log = 3 ∷ []
+action_row empty = 4 ∷ []
+action_row return = 5 ∷ []
+action_row (call c) = 6 ∷ c ∷ []
 
 -- a rule's own bytes of the book: from its place to its end, action through expression
 pub record RuleWritten (s : List ℕ) (r : Rule) : Type 0 where
   pub some : r.place < r.next
   pub inside : r.next ≤ length s
-  pub action : Row s r.place (actionRow r.action) (place_of r.match)
+  pub action : Row s r.place (action_row r.action) (place_of r.match)
   pub expression : Stands s (place_of r.match) r.match r.next
 
 -- every rule's expression stands at its own place, up to the rule's end

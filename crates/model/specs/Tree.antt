@@ -47,12 +47,12 @@ pub record Book : Type 0 where
   pub chains : List (List Rule)
 
 -- the rules of all chains, in the order of their numbers
-abbrev pub allRules : List (List Rule) → List Rule
-allRules [] = []
-allRules (c ∷ cs) = c ++ allRules cs
+abbrev pub all_rules : List (List Rule) → List Rule
+all_rules [] = []
+all_rules (c ∷ cs) = c ++ all_rules cs
 
-abbrev pub rulesOf : Book → List Rule
-rulesOf b = allRules b.chains
+abbrev pub rules_of : Book → List Rule
+rules_of b = all_rules b.chains
 
 -- of every element of a list
 abbrev pub Every : {A : Type 0} → (A → Type 0) → List A → Type 0

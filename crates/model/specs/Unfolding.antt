@@ -1,7 +1,7 @@
 -- The unfolded list, and its words.
 use Rattle.std.specs.Prelude.{ℕ, zero, suc, ◌+◌, ◌*◌, Bool, true, false, List, [], ◌∷◌, ◌++◌, length}
 use Rattle.model.specs.Answer.{when}
-use Rattle.model.specs.Calls.{chainOf}
+use Rattle.model.specs.Calls.{chain_of}
 use Rattle.model.specs.Tree.{Expr, place_of, Rule, Book, Action, Every}
 use Rattle.model.specs.Tree.Action.{accept, drop, reject, log, empty, return, call}
 
@@ -51,27 +51,27 @@ past ctx r empty = ctx
 past ctx r return = ctx ++ fails r
 past ctx r (call c) = ctx
 
-unfoldable pub unfoldRules : (Context → ℕ → List ListRule) → Context → List Rule → List ListRule
-unfoldRules run ctx [] = []
-unfoldRules run ctx (r ∷ rs) = entered run ctx r r.action ++ unfoldRules run (past ctx r r.action) rs
+unfoldable pub unfold_rules : (Context → ℕ → List ListRule) → Context → List Rule → List ListRule
+unfold_rules run ctx [] = []
+unfold_rules run ctx (r ∷ rs) = entered run ctx r r.action ++ unfold_rules run (past ctx r r.action) rs
 
-unfoldable pub unfoldChain : ℕ → Book → Context → ℕ → List ListRule
-unfolding unfoldRules
-unfoldChain zero b ctx c = []
-unfoldChain (suc n) b ctx c = unfoldRules (unfoldChain n b) ctx (chainOf b c)
+unfoldable pub unfold_chain : ℕ → Book → Context → ℕ → List ListRule
+unfolding unfold_rules
+unfold_chain zero b ctx c = []
+unfold_chain (suc n) b ctx c = unfold_rules (unfold_chain n b) ctx (chain_of b c)
 
 -- the whole list: the entry's rules, and last the policy under no condition
 unfoldable pub list_of : Book → List ListRule
-unfolding unfoldChain
-list_of b = unfoldChain (length b.chains) b [] zero ++ (record { action = b.policy; number = b.total; conditions = [] } ∷ [])
+unfolding unfold_chain
+list_of b = unfold_chain (length b.chains) b [] zero ++ (record { action = b.policy; number = b.total; conditions = [] } ∷ [])
 
-abbrev pub conditionWord : Condition → ℕ
-conditionWord c = 2 * place_of c.match + when c.negated 1 0
+abbrev pub condition_word : Condition → ℕ
+condition_word c = 2 * place_of c.match + when c.negated 1 0
 
-abbrev pub conditionWords : List Condition → List ℕ
-conditionWords [] = []
-conditionWords (c ∷ cs) = conditionWord c ∷ conditionWords cs
+abbrev pub condition_words : List Condition → List ℕ
+condition_words [] = []
+condition_words (c ∷ cs) = condition_word c ∷ condition_words cs
 
 unfoldable pub words_of : List ListRule → List ℕ
 words_of [] = []
-words_of (r ∷ rs) = r.action ∷ r.number ∷ length r.conditions ∷ (conditionWords r.conditions ++ words_of rs)
+words_of (r ∷ rs) = r.action ∷ r.number ∷ length r.conditions ∷ (condition_words r.conditions ++ words_of rs)

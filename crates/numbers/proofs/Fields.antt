@@ -8,12 +8,12 @@ use Rattle.model.specs.Answer.{when}
 use Rattle.model.specs.Reader.{Stand, Read, after, give, refuse}
 use Rattle.model.specs.Number.{Numeral, numeral, illegible, number_at, onward, number}
 use Rattle.model.specs.Book.{within}
-use Rattle.model.proofs.Success.{Got, Moved, within-got}
+use Rattle.model.proofs.Success.{Got, Moved, within_got}
 use Rattle.numbers.specs.Field.{bounded, field_at}
 
-pub within-is : (low high : ℕ) (s : List ℕ) (st : Stand) → within low high s st ≡ onward st (field_at s st.at low high)
+pub within_is : (low high : ℕ) (s : List ℕ) (st : Stand) → within low high s st ≡ onward st (field_at s st.at low high)
 unfolding field_at number
-within-is low high s st = go (number_at s st.at)
+within_is low high s st = go (number_at s st.at)
   where
     judge : (b : Bool) (v next : ℕ) →
         when b (give v) (refuse 4 st.at) s (record { at = next; rules = st.rules; sources = st.sources })
@@ -26,8 +26,8 @@ within-is low high s st = go (number_at s st.at)
     go (illegible n) = refl
 
 -- a field that is read is within its limits
-pub field-within : (s : List ℕ) (at low high v next : ℕ) → field_at s at low high ≡ numeral v next → (low ≤ v) × (v ≤ high)
-field-within s at low high v next e =
+pub field_within : (s : List ℕ) (at low high v next : ℕ) → field_at s at low high ≡ numeral v next → (low ≤ v) × (v ≤ high)
+field_within s at low high v next e =
     let st : Stand = record { at = at; rules = 0; sources = 0 } in
-    let k = subst (λ (m : Read ℕ). Got m (λ n st'. (low ≤ n) × (n ≤ high) × Moved s st st')) (within-is low high s st ∙ ap (onward st) e) (within-got low high s st) in
+    let k = subst (λ (m : Read ℕ). Got m (λ n st'. (low ≤ n) × (n ≤ high) × Moved s st st')) (within_is low high s st ∙ ap (onward st) e) (within_got low high s st) in
     (k.0, k.1)

@@ -21,9 +21,9 @@ rest at v sc next (whole w b) = judged (v + sc * groups w b) (when (ltb at next)
 rest at v sc next cut = illegible 2
 rest at v sc next long = illegible 3
 
-when-same : {A : Type 0} (t : Bool) (a : A) → when t a a ≡ a
-when-same true a = refl
-when-same false a = refl
+when_same : {A : Type 0} (t : Bool) (a : A) → when t a a ≡ a
+when_same true a = refl
+when_same false a = refl
 
 starts : (at : ℕ) (w : Writing) → spelt at w ≡ rest at 0 1 at w
 unfolding rest spelt
@@ -39,7 +39,7 @@ steps at v sc next c le lo hi (whole w b) =
     let e₁ : v + sc * (c % 128 + 128 * groups w b) ≡ v + (c - 128) * sc + sc * 128 * groups w b =
     rw (e₀, mul_comm (c - 128) sc, mul-add, mul_assoc, add_assoc) in
     let e₂ : when (ltb at next) (ltb 0 b) (ltb 0 b) ≡ when (ltb at (next + 1)) (ltb 0 b) (shortest w b) =
-    rw (lt-ltb at (next + 1) (omega arith), when-same) in
+    rw (lt-ltb at (next + 1) (omega arith), when_same) in
     let e₃ : next + suc (suc (length w)) ≡ next + 1 + suc (length w) = omega arith in
     cc
 steps at v sc next c le lo hi cut = refl
@@ -57,15 +57,15 @@ no_byte s next zero more h = absurd (omega arith)
 no_byte s next (suc n) more h = rw (drop_of_length-le s h)
 
 module _ (s : List ℕ) (at v sc next left : ℕ) (more : 0 < left) where
-  pub rest-cut : length s ≤ next → rest at v sc next (writing left (drop next s)) ≡ illegible 2
+  pub rest_cut : length s ≤ next → rest at v sc next (writing left (drop next s)) ≡ illegible 2
   unfolding rest
-  rest-cut h = rw (no_byte s next left more h)
+  rest_cut h = rw (no_byte s next left more h)
 
   -- b is the byte that was read
-  pub rest-last : (b : ℕ) → b ≡ get_or s next 0 → next < length s → b < 128
+  pub rest_last : (b : ℕ) → b ≡ get_or s next 0 → next < length s → b < 128
       → rest at v sc next (writing left (drop next s)) ≡ judged (v + b * sc) (when (ltb at next) (ltb 0 b) true) (next + 1)
   unfolding rest groups shortest
-  rest-last b e h small = rw (one_byte s next left more h, ← e, lt-ltb b 128 small, mul_comm b sc)
+  rest_last b e h small = rw (one_byte s next left more h, ← e, lt-ltb b 128 small, mul_comm b sc)
 
   pub rest_more : (b : ℕ) → b ≡ get_or s next 0 → at ≤ next → next < length s → 128 ≤ b → b < 256
       → rest at v sc next (writing left (drop next s)) ≡ rest at (v + (b - 128) * sc) (sc * 128) (next + 1) (writing (left - 1) (drop (next + 1) s))
@@ -73,60 +73,60 @@ module _ (s : List ℕ) (at v sc next left : ℕ) (more : 0 < left) where
       rw (one_byte s next left more h, ← e, le-ltb b 128 lo) (steps at v sc next b le lo hi (writing (left - 1) (drop (next + 1) s)))
 
 module _ (at v next b : ℕ) where
-  pub judged-large : (short : Bool) → greatest < v → judged v short next ≡ illegible 3
+  pub judged_large : (short : Bool) → greatest < v → judged v short next ≡ illegible 3
   unfolding judged
-  judged-large short h = rw (lt-leb v greatest h)
+  judged_large short h = rw (lt-leb v greatest h)
 
-  pub judged-zero : b ≡ 0 → at < next → v ≤ greatest → judged v (when (ltb at next) (ltb 0 b) true) (next + 1) ≡ illegible 3
+  pub judged_zero : b ≡ 0 → at < next → v ≤ greatest → judged v (when (ltb at next) (ltb 0 b) true) (next + 1) ≡ illegible 3
   unfolding judged
-  judged-zero e lt h = rw (le-leb v greatest h, lt-ltb at next lt, e)
+  judged_zero e lt h = rw (le-leb v greatest h, lt-ltb at next lt, e)
 
-  pub judged-first : next ≤ at → v ≤ greatest → judged v (when (ltb at next) (ltb 0 b) true) (next + 1) ≡ numeral v (next + 1)
+  pub judged_first : next ≤ at → v ≤ greatest → judged v (when (ltb at next) (ltb 0 b) true) (next + 1) ≡ numeral v (next + 1)
   unfolding judged
-  judged-first le h = rw (le-leb v greatest h, le-ltb at next le)
+  judged_first le h = rw (le-leb v greatest h, le-ltb at next le)
 
-  pub judged-some : (b ≡ 0 → ⊥) → v ≤ greatest → judged v (when (ltb at next) (ltb 0 b) true) (next + 1) ≡ numeral v (next + 1)
+  pub judged_some : (b ≡ 0 → ⊥) → v ≤ greatest → judged v (when (ltb at next) (ltb 0 b) true) (next + 1) ≡ numeral v (next + 1)
   unfolding judged
-  judged-some ne h = rw (le-leb v greatest h, lt-ltb 0 b (omega arith), when-same)
+  judged_some ne h = rw (le-leb v greatest h, lt-ltb 0 b (omega arith), when_same)
 
-pub rest-long : (s : List ℕ) (at v sc next left : ℕ) → left ≤ 0 → rest at v sc next (writing left (drop next s)) ≡ illegible 3
+pub rest_long : (s : List ℕ) (at v sc next left : ℕ) → left ≤ 0 → rest at v sc next (writing left (drop next s)) ≡ illegible 3
 unfolding rest writing
-rest-long s at v sc next zero h = refl
-rest-long s at v sc next (suc n) h = absurd (omega arith)
+rest_long s at v sc next zero h = refl
+rest_long s at v sc next (suc n) h = absurd (omega arith)
 
-pub rest-start : (s : List ℕ) (at : ℕ) → number_at s at ≡ rest at 0 1 at (writing 5 (drop at s))
+pub rest_start : (s : List ℕ) (at : ℕ) → number_at s at ≡ rest at 0 1 at (writing 5 (drop at s))
 unfolding number_at
-rest-start s at = starts at (writing 5 (drop at s))
+rest_start s at = starts at (writing 5 (drop at s))
 
 -- a group's worth is small, while a byte is left to read
 pub scale_small : (left sc : ℕ) → 0 < left → left ≤ 5 → sc ≡ 128 ^ (5 - left) → sc ≤ 268435456
 scale_small left sc more le e = rw e (pow-le-pow_right (omega arith) {j = 4} (omega arith))
 
-pub scale-next : (left : ℕ) → 0 < left → left ≤ 5 → 128 ^ (5 - left) * 128 ≡ 128 ^ (5 - (left - 1))
-scale-next left more le =
+pub scale_next : (left : ℕ) → 0 < left → left ≤ 5 → 128 ^ (5 - left) * 128 ≡ 128 ^ (5 - (left - 1))
+scale_next left more le =
     let e : 5 - (left - 1) ≡ suc (5 - left) = omega arith in
     rw (e, pow-suc)
 
 pub product_small : (b sc : ℕ) → b < 128 → sc ≤ 268435456 → b * sc ≤ 34091302912
 product_small b sc h k = mul-le-mul {n₂ = 127} {m₂ = 268435456} (omega arith) k
 
-pub sum-small : (v b sc : ℕ) → b < 128 → v < sc → v + b * sc < sc * 128
-sum-small v b sc h k = omega (arith, mul-le-mul_right {n = 127} sc (le-pred_of_lt h))
+pub sum_small : (v b sc : ℕ) → b < 128 → v < sc → v + b * sc < sc * 128
+sum_small v b sc h k = omega (arith, mul-le-mul_right {n = 127} sc (le-pred_of_lt h))
 
 -- where a number is known to stand, there is another byte to read, and the last one is not refused
-pub legible-on : (s : List ℕ) (at v sc next left w n : ℕ) → rest at v sc next (writing left (drop next s)) ≡ numeral w n → (0 < left) × (next < length s)
-legible-on s at v sc next left w n e = cases (λ _. (0 < left) × (next < length s)) (ltb 0 left)
+pub legible_on : (s : List ℕ) (at v sc next left w n : ℕ) → rest at v sc next (writing left (drop next s)) ≡ numeral w n → (0 < left) × (next < length s)
+legible_on s at v sc next left w n e = cases (λ _. (0 < left) × (next < length s)) (ltb 0 left)
     (λ more. cases (λ _. (0 < left) × (next < length s)) (ltb next (length s))
     (λ h. (omega tests, omega tests))
-    (λ h. never 2 (sym (rest-cut s at v sc next left (omega tests) (omega tests)) ∙ e)))
-    (λ h. never 3 (sym (rest-long s at v sc next left (omega tests)) ∙ e))
+    (λ h. never 2 (sym (rest_cut s at v sc next left (omega tests) (omega tests)) ∙ e)))
+    (λ h. never 3 (sym (rest_long s at v sc next left (omega tests)) ∙ e))
   where
     never : {Z : Type 0} (k : ℕ) → illegible k ≡ numeral w n → Z
     never k z = let q : ◌≡◌ {A = ℕ} 0 1 = cc in absurd (omega arith)
 
-pub legible-last : (v next w n : ℕ) (short : Bool) → judged v short next ≡ numeral w n → (v ≤ greatest) × (judged v short next ≡ numeral v next)
+pub legible_last : (v next w n : ℕ) (short : Bool) → judged v short next ≡ numeral w n → (v ≤ greatest) × (judged v short next ≡ numeral v next)
 unfolding judged
-legible-last v next w n short e = go (leb v greatest) short refl e
+legible_last v next w n short e = go (leb v greatest) short refl e
   where
     go : (t u : Bool) → leb v greatest ≡ t → when (t && u) (numeral v next) (illegible 3) ≡ numeral w n
         → (v ≤ greatest) × (when (t && u) (numeral v next) (illegible 3) ≡ numeral v next)

@@ -10,15 +10,15 @@ use Rattle.plan.specs.declared.Asked.TheVariants.{At, Missing}
 use Rattle.plan.specs.Contents.{asked}
 
 module _ (number : List ℕ) (port i : ℕ) where
-  pub asked-none : (n : ℕ) → n ≡ 0 → asked number port i n ≡ Missing
+  pub asked_none : (n : ℕ) → n ≡ 0 → asked number port i n ≡ Missing
   unfolding asked
-  asked-none zero e = refl
-  asked-none (suc n) e = absurd (omega arith)
+  asked_none zero e = refl
+  asked_none (suc n) e = absurd (omega arith)
 
   pub asked_here : (n m : ℕ) → n ≡ suc m → get_or number i 0 ≡ port → asked number port i n ≡ At i
   unfolding asked
   asked_here n m e h = rw (e, eq-eqb (get_or number i 0) port h)
 
-  pub asked-later : (n m : ℕ) → n ≡ suc m → (get_or number i 0 ≡ port → ⊥) → asked number port i n ≡ asked number port (i + 1) m
+  pub asked_later : (n m : ℕ) → n ≡ suc m → (get_or number i 0 ≡ port → ⊥) → asked number port i n ≡ asked number port (i + 1) m
   unfolding asked
-  asked-later n m e h = rw (e, add-one, ne_eqb (get_or number i 0) port h)
+  asked_later n m e h = rw (e, add-one, ne_eqb (get_or number i 0) port h)

@@ -6,30 +6,30 @@ use native.Mathlib.Omega.{arith}
 use native.Mathlib.Nat.{suc-mul}
 use borrow.Author.Tests.{eq-eqb, ne_eqb}
 use lib.ListN.{length, get_or}
-use Rattle.model.specs.Limits.{greatest, portHighest, portsMost, rangesMost}
+use Rattle.model.specs.Limits.{greatest, port_highest, ports_most, ranges_most}
 use Rattle.model.specs.Answer as answer
 use Rattle.model.specs.Answer.{Answer, fine}
 use Rattle.model.specs.Spans.{Canonical}
 use Rattle.model.specs.Plan.{Port, plan_of}
-use Rattle.model.proofs.PlanRead.{GoodPorts, GoodPlan, plan-good}
+use Rattle.model.proofs.PlanRead.{GoodPorts, GoodPlan, plan_good}
 use Rattle.plan.specs.declared.PlanRead.{PlanRead}
 use Rattle.plan.specs.declared.PlanRead.TheVariants.{Fine, Refused}
 use Rattle.plan.specs.declared.PlanContents.{PlanContents}
 use Rattle.plan.specs.declared.PlanAnswer.{PlanAnswer}
 use Rattle.plan.specs.declared.Asked.TheVariants.{At}
-use Rattle.plan.specs.Contents.{asked, contentsOf, planAnswer, rangesAt, PlanShape, PlanCharted}
+use Rattle.plan.specs.Contents.{asked, contents_of, plan_answer, ranges_at, PlanShape, PlanCharted}
 use Rattle.plan.proofs.Ports.{all_room}
-use Rattle.plan.proofs.Held.{Held, held, held_first, held_next, held-ranges, held-ports, held-asked}
+use Rattle.plan.proofs.Held.{Held, held, held_first, held_next, held_ranges, held_ports, held_asked}
 
 -- port j of the contents, with all ranges up to its own before `most`
 record Standing (c : PlanContents) (j most : ℕ) : Type 0 where
-  known : get_or c.number j 0 ≤ portHighest
+  known : get_or c.number j 0 ≤ port_highest
   rising : get_or c.first j 0 ≤ get_or c.first (j + 1) 0
   inside : get_or c.first (j + 1) 0 ≤ most
-  short : get_or c.first (j + 1) 0 - get_or c.first j 0 ≤ rangesMost
-  canonical : Canonical greatest (rangesAt c j)
+  short : get_or c.first (j + 1) 0 - get_or c.first j 0 ≤ ranges_most
+  canonical : Canonical greatest (ranges_at c j)
 
-stands : (c : PlanContents) (k to least : ℕ) (ps : List Port) → Held c k to ps → GoodPorts least ps → (i j : ℕ) → j ≡ k + i → i < length ps → Standing c j (to + length ps * rangesMost)
+stands : (c : PlanContents) (k to least : ℕ) (ps : List Port) → Held c k to ps → GoodPorts least ps → (i j : ℕ) → j ≡ k + i → i < length ps → Standing c j (to + length ps * ranges_most)
 stands c k to least [] h g i j e lt = absurd (omega arith)
 stands c k to least (p ∷ ps) h g zero j e lt =
     let here : j ≡ k = omega arith in
@@ -38,27 +38,27 @@ stands c k to least (p ∷ ps) h g zero j e lt =
     rw here (record {
       known = omega (arith, h.1, g.0.known);
       rising = omega (arith, first, next);
-      inside = omega (arith, next, g.0.few.few, suc-mul (length ps) rangesMost);
+      inside = omega (arith, next, g.0.few.few, suc-mul (length ps) ranges_most);
       short = omega (arith, first, next, g.0.few.few);
-      canonical = subst (Canonical greatest) (sym (held-ranges c k to p ps h)) g.0.few.canonical;
+      canonical = subst (Canonical greatest) (sym (held_ranges c k to p ps h)) g.0.few.canonical;
     })
 stands c k to least (p ∷ ps) h g (suc i) j e lt =
     let r = stands c (suc k) (to + length p.ranges) (suc p.number) ps h.3 g.1 i j (omega arith) (omega arith) in
-    record { known = r.known; rising = r.rising; inside = omega (arith, r.inside, g.0.few.few, suc-mul (length ps) rangesMost); short = r.short; canonical = r.canonical }
+    record { known = r.known; rising = r.rising; inside = omega (arith, r.inside, g.0.few.few, suc-mul (length ps) ranges_most); short = r.short; canonical = r.canonical }
 
-shape_of : (ps : List Port) → GoodPlan ps → PlanShape (contentsOf ps)
-unfolding contentsOf
+shape_of : (ps : List Port) → GoodPlan ps → PlanShape (contents_of ps)
+unfolding contents_of
 shape_of ps g = record {
   few = g.few;
   known = λ i lt. (at i lt).known;
   rising = λ i lt. (at i lt).rising;
-  inside = λ i lt. omega (arith, (at i lt).inside, all_room rangesMost portsMost (length ps) (length ps * rangesMost) g.few (omega arith));
+  inside = λ i lt. omega (arith, (at i lt).inside, all_room ranges_most ports_most (length ps) (length ps * ranges_most) g.few (omega arith));
   short = λ i lt. (at i lt).short;
   canonical = λ i lt. (at i lt).canonical;
 }
   where
-    at : (i : ℕ) → i < length ps → Standing (contentsOf ps) i (0 + length ps * rangesMost)
-    at i lt = stands (contentsOf ps) 0 0 0 ps (held ps) g.ports i i (omega arith) lt
+    at : (i : ℕ) → i < length ps → Standing (contents_of ps) i (0 + length ps * ranges_most)
+    at i lt = stands (contents_of ps) 0 0 0 ps (held ps) g.ports i i (omega arith) lt
 
 -- numbers rise, so a port asked by its own number is found
 found : (c : PlanContents) (k to least : ℕ) (ps : List Port) → Held c k to ps → GoodPorts least ps → (i j : ℕ) → j ≡ k + i → i < length ps →
@@ -73,30 +73,30 @@ found c k to least (p ∷ ps) h g (suc i) j e lt =
     let other : get_or c.number k 0 ≡ get_or c.number j 0 → ⊥ = λ same. omega (arith, h.1, r.0) in
     (omega (arith, g.0.later, r.0), rw (ne_eqb (get_or c.number k 0) (get_or c.number j 0) other) r.1)
 
-pub plan-charted : (s : List ℕ) (ps : List Port) → plan_of s ≡ fine ps → PlanCharted ps (contentsOf ps)
-unfolding contentsOf
-plan-charted s ps e = record {
-  shape = shape_of ps (plan-good s ps e);
-  ports = held-ports (contentsOf ps) 0 0 ps (held ps);
-  ranges = λ port. held-asked (contentsOf ps) port 0 0 ps (held ps);
-  own = λ i lt. (found (contentsOf ps) 0 0 0 ps (held ps) (plan-good s ps e).ports i i (omega arith) lt).1;
+pub plan_charted : (s : List ℕ) (ps : List Port) → plan_of s ≡ fine ps → PlanCharted ps (contents_of ps)
+unfolding contents_of
+plan_charted s ps e = record {
+  shape = shape_of ps (plan_good s ps e);
+  ports = held_ports (contents_of ps) 0 0 ps (held ps);
+  ranges = λ port. held_asked (contents_of ps) port 0 0 ps (held ps);
+  own = λ i lt. (found (contents_of ps) 0 0 0 ps (held ps) (plan_good s ps e).ports i i (omega arith) lt).1;
 }
 
 -- ---- from the answer back to the plan
 
-pub answer-fine : (m : Answer (List Port)) (a : PlanAnswer) → a ≡ planAnswer m → a.read ≡ Fine → (ps : List Port) × (m ≡ fine ps) × (a.contents ≡ contentsOf ps)
-answer-fine (fine ps) a e f = (ps, refl, ap (λ (x : PlanAnswer). x.contents) e)
-answer-fine (answer.refused n p) a e f = absurd (let g : ◌≡◌ {A = PlanRead} Fine (Refused n p) = sym f ∙ ap (λ (x : PlanAnswer). x.read) e in let z : ◌≡◌ {A = ℕ} 0 1 = cc in omega arith)
+pub answer_fine : (m : Answer (List Port)) (a : PlanAnswer) → a ≡ plan_answer m → a.read ≡ Fine → (ps : List Port) × (m ≡ fine ps) × (a.contents ≡ contents_of ps)
+answer_fine (fine ps) a e f = (ps, refl, ap (λ (x : PlanAnswer). x.contents) e)
+answer_fine (answer.refused n p) a e f = absurd (let g : ◌≡◌ {A = PlanRead} Fine (Refused n p) = sym f ∙ ap (λ (x : PlanAnswer). x.read) e in let z : ◌≡◌ {A = ℕ} 0 1 = cc in omega arith)
 
-pub answer-refused : (m : Answer (List Port)) (a : PlanAnswer) (n p : ℕ) → a ≡ planAnswer m → a.read ≡ Refused n p → m ≡ answer.refused n p
-answer-refused (fine ps) a n p e f = absurd (let g : ◌≡◌ {A = PlanRead} Fine (Refused n p) = sym (ap (λ (x : PlanAnswer). x.read) e) ∙ f in let z : ◌≡◌ {A = ℕ} 0 1 = cc in omega arith)
-answer-refused (answer.refused k q) a n p e f = let g : ◌≡◌ {A = PlanRead} (Refused k q) (Refused n p) = sym (ap (λ (x : PlanAnswer). x.read) e) ∙ f in cc
+pub answer_refused : (m : Answer (List Port)) (a : PlanAnswer) (n p : ℕ) → a ≡ plan_answer m → a.read ≡ Refused n p → m ≡ answer.refused n p
+answer_refused (fine ps) a n p e f = absurd (let g : ◌≡◌ {A = PlanRead} Fine (Refused n p) = sym (ap (λ (x : PlanAnswer). x.read) e) ∙ f in let z : ◌≡◌ {A = ℕ} 0 1 = cc in omega arith)
+answer_refused (answer.refused k q) a n p e f = let g : ◌≡◌ {A = PlanRead} (Refused k q) (Refused n p) = sym (ap (λ (x : PlanAnswer). x.read) e) ∙ f in cc
 
 -- whatever the bytes, the ports that are told have slots
-pub answer-few : (s : List ℕ) (a : PlanAnswer) → a ≡ planAnswer (plan_of s) → a.contents.ports ≤ portsMost
-unfolding contentsOf
-answer-few s a e = go (plan_of s) refl e
+pub answer_few : (s : List ℕ) (a : PlanAnswer) → a ≡ plan_answer (plan_of s) → a.contents.ports ≤ ports_most
+unfolding contents_of
+answer_few s a e = go (plan_of s) refl e
   where
-    go : (m : Answer (List Port)) → plan_of s ≡ m → a ≡ planAnswer m → a.contents.ports ≤ portsMost
-    go (fine ps) f h = omega (arith, (plan-good s ps f).few, ap (λ (x : PlanAnswer). x.contents.ports) h)
+    go : (m : Answer (List Port)) → plan_of s ≡ m → a ≡ plan_answer m → a.contents.ports ≤ ports_most
+    go (fine ps) f h = omega (arith, (plan_good s ps f).few, ap (λ (x : PlanAnswer). x.contents.ports) h)
     go (answer.refused n p) f h = omega (arith, ap (λ (x : PlanAnswer). x.contents.ports) h)

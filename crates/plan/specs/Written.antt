@@ -1,12 +1,12 @@
 -- What the functions that read a plan from left to right leave in the lent arrays.
 use Rattle.std.specs.Prelude.{ℕ, zero, suc, ◌≤◌, ◌≡◌, List, length}
-use Rattle.model.specs.Limits.{portHighest, portsMost, rangesMost}
+use Rattle.model.specs.Limits.{port_highest, ports_most, ranges_most}
 use Rattle.model.specs.Reader.{Stand, Read, got, refused, Reader, ◌>>=◌, give}
 use Rattle.model.specs.Book.{within}
 use Rattle.model.specs.Spans.{Spans}
-use Rattle.model.specs.Plan.{Port, rangesFrom}
+use Rattle.model.specs.Plan.{Port, ranges_from}
 use Rattle.model.specs.Filling.{put}
-use Rattle.plan.specs.Contents.{slots, lows, highs, numbers, allRanges, starts}
+use Rattle.plan.specs.Contents.{slots, lows, highs, numbers, all_ranges, starts}
 use Rattle.plan.specs.declared.PlanStep.{PlanStep}
 use Rattle.plan.specs.declared.PlanStep.TheVariants as step
 use Rattle.plan.specs.declared.PortRead.{PortRead}
@@ -44,27 +44,27 @@ abbrev pub tables : List ℕ → List ℕ → List ℕ → List ℕ → Tables
 tables number first low high = record { number = number; first = first; ends = ends low high }
 
 pub record Sized (t : Tables) : Type 0 where
-  pub number : length t.number ≡ portsMost
-  pub first : length t.first ≡ suc portsMost
+  pub number : length t.number ≡ ports_most
+  pub first : length t.first ≡ suc ports_most
   pub wide : Wide t.ends
 
 -- ports written from port i on, their ranges from slot `to` on
 abbrev pub filled : Tables → ℕ → ℕ → List Port → Tables
-filled t i to ps = record { number = put t.number i (numbers ps); first = put t.first i (starts to ps); ends = laid t.ends to (allRanges ps) }
+filled t i to ps = record { number = put t.number i (numbers ps); first = put t.first i (starts to ps); ends = laid t.ends to (all_ranges ps) }
 
 -- the edition and the count of ports
-abbrev pub portCount : Reader ℕ
-portCount = do
+abbrev pub port_count : Reader ℕ
+port_count = do
   edition ← within 1 1
-  n ← within 0 portsMost
+  n ← within 0 ports_most
   give n
 
 -- one port, numbered least or more
-abbrev pub onePort : ℕ → Reader Port
-onePort least = do
-  p ← within least portHighest
-  n ← within 0 rangesMost
-  ranges ← rangesFrom n zero
+abbrev pub one_port : ℕ → Reader Port
+one_port least = do
+  p ← within least port_highest
+  n ← within 0 ranges_most
+  ranges ← ranges_from n zero
   give (record { number = p; ranges = ranges })
 
 -- What a function answers beside what the model reads there: the arrays are told only where nothing is refused, since a refused plan
@@ -72,7 +72,7 @@ onePort least = do
 pub record CountGot (r : CountRead) (n : ℕ) (st : Stand) : Type 0 where
   pub answer : r ≡ count.Got n st.at
   pub stands : st ≡ standing st.at
-  pub few : n ≤ portsMost
+  pub few : n ≤ ports_most
 
 abbrev pub CountIs : CountRead → Read ℕ → Type 0
 CountIs r (got n st) = CountGot r n st
@@ -91,8 +91,8 @@ RangesAre n to e e' r (refused k p) = r ≡ step.Bad p
 pub record PortGot (to : ℕ) (e e' : Ends) (r : PortRead) (p : Port) (st : Stand) : Type 0 where
   pub answer : r ≡ port.Got p.number (length p.ranges) st.at
   pub stands : st ≡ standing st.at
-  pub known : p.number ≤ portHighest
-  pub few : length p.ranges ≤ rangesMost
+  pub known : p.number ≤ port_highest
+  pub few : length p.ranges ≤ ranges_most
   pub writes : e' ≡ laid e to p.ranges
 
 abbrev pub PortIs : ℕ → Ends → Ends → PortRead → Read Port → Type 0

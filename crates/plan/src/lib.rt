@@ -1,9 +1,9 @@
 // Reads an address plan: refusals 11 and 12.
 ghost use Rattle.std.specs.Prelude.{◌≡◌, ◌+◌, ◌≤◌};
-ghost use Rattle.model.specs.Limits.{portsMost, rangesMost};
-ghost use Rattle.model.specs.Plan.{plan_of, portsFrom, rangesFrom};
-ghost use Rattle.plan.specs.Contents.{planAnswer, slots, refusedPlan, asked};
-ghost use Rattle.plan.specs.Written.{standing, ends, tables, Wide, Sized, portCount, onePort, CountIs, RangesAre, PortIs, PortsAre};
+ghost use Rattle.model.specs.Limits.{ports_most, ranges_most};
+ghost use Rattle.model.specs.Plan.{plan_of, ports_from, ranges_from};
+ghost use Rattle.plan.specs.Contents.{plan_answer, slots, refused_plan, asked};
+ghost use Rattle.plan.specs.Written.{standing, ends, tables, Wide, Sized, port_count, one_port, CountIs, RangesAre, PortIs, PortsAre};
 
 use numbers::{LARGEST, NumberRead, read_field};
 
@@ -85,7 +85,7 @@ fn read_ranges(
     high: &mut [u32; RANGES],
 ) -> PlanStep
     requires { Wide (ends low.old high.old) × (to + count ≤ slots) }
-    ensures { RangesAre count to (ends low.old high.old) (ends low.new high.new) result (rangesFrom count 0 s.now (standing at)) }
+    ensures { RangesAre count to (ends low.old high.old) (ends low.new high.new) result (ranges_from count 0 s.now (standing at)) }
 {
     let mut next = at;
     let mut least: u64 = 0;
@@ -126,8 +126,8 @@ fn read_port(
     low: &mut [u32; RANGES],
     high: &mut [u32; RANGES],
 ) -> PortRead
-    requires { Wide (ends low.old high.old) × (to + rangesMost ≤ slots) }
-    ensures { PortIs to (ends low.old high.old) (ends low.new high.new) result (onePort least s.now (standing at)) }
+    requires { Wide (ends low.old high.old) × (to + ranges_most ≤ slots) }
+    ensures { PortIs to (ends low.old high.old) (ends low.new high.new) result (one_port least s.now (standing at)) }
 {
     match read_field(s, at, least, PORT_HIGHEST) {
         NumberRead::Refused(_) => PortRead::Bad(at),
@@ -150,8 +150,8 @@ fn read_ports(
     low: &mut [u32; RANGES],
     high: &mut [u32; RANGES],
 ) -> PlanStep
-    requires { Sized (tables number.old first.old low.old high.old) × (count ≤ portsMost) }
-    ensures { PortsAre count 0 0 (tables number.old first.old low.old high.old) (tables number.new first.new low.new high.new) result (portsFrom count 0 s.now (standing at)) }
+    requires { Sized (tables number.old first.old low.old high.old) × (count ≤ ports_most) }
+    ensures { PortsAre count 0 0 (tables number.old first.old low.old high.old) (tables number.new first.new low.new high.new) result (ports_from count 0 s.now (standing at)) }
 {
     let mut next = at;
     let mut least: u64 = 0;
@@ -178,7 +178,7 @@ fn read_ports(
 
 // The edition, and how many ports follow.
 fn read_count(s: &[u8]) -> CountRead
-    ensures { CountIs result (portCount s.now (standing 0)) }
+    ensures { CountIs result (port_count s.now (standing 0)) }
 {
     match read_field(s, 0, 1, 1) {
         NumberRead::Refused(_) => CountRead::Bad(0),
@@ -190,7 +190,7 @@ fn read_count(s: &[u8]) -> CountRead
 }
 
 fn refused(place: usize) -> PlanAnswer
-    ensures { result ≡ refusedPlan 11 place }
+    ensures { result ≡ refused_plan 11 place }
 {
     let contents = PlanContents {
         ports: 0,
@@ -206,7 +206,7 @@ fn refused(place: usize) -> PlanAnswer
 }
 
 pub fn read_plan(s: &[u8]) -> PlanAnswer
-    ensures { result ≡ planAnswer (plan_of s.now) }
+    ensures { result ≡ plan_answer (plan_of s.now) }
 {
     if BYTES < s.len() {
         return refused(0);
@@ -252,7 +252,7 @@ pub fn read_plan(s: &[u8]) -> PlanAnswer
 
 // The asked port among the first ports of the contents; refusal 12 where it is missing.
 pub fn port_index(number: &[u32; PORTS], ports: usize, port: u32) -> Asked
-    requires { ports ≤ portsMost }
+    requires { ports ≤ ports_most }
     ensures { result ≡ asked number.now port 0 ports }
 {
     let mut i: usize = 0;

@@ -31,7 +31,7 @@ use denote.Triple.Walked.{says}
 use Rattle.numbers.specs.declared.NumberRead.{NumberRead}
 use Rattle.expressions.specs.declared.ExpressionRead.{ExpressionRead}
 use Rattle.reader.specs.declared.Reader.{Reader}
-use Rattle.reader.specs.Moved.{numberTold, numberFrom, expressionFrom, afterNumber, afterExpression}
+use Rattle.reader.specs.Moved.{number_told, number_from, expression_from, after_number, after_expression}
 use Rattle.reader.proofs.Held.{R}
 use Rattle.reader.proofs.Lent.{lent, Passed}
 use Rattle.reader.specs.contracts.next_number as number
@@ -74,20 +74,20 @@ module _ {M : Type 1} {𝓤 : Ura M} (𝓛 : Logic 𝓤) (mem : Memory → SProp
   abbrev pub NumberSaid : NumberRead → SProp 𝓤
   NumberSaid a = ensured 𝓛 number.ended (number.clauses 𝓛 mem run) κs (ref, tt) tt a
 
-  pub number-said : (a : NumberRead) → ent 𝓤 (NumberSaid a) (sep 𝓤 (A.res δ (Rd.coded.code (afterNumber h a))) (fact 𝓤 (numberTold a ≡ numberFrom h)))
-  number-said a =
-      qed 𝓛 (some (λ (ws : Reader × Unit {0}). ‵ (lasts number.ended κs (ref, tt) ws) ⊛ raw (fact 𝓤 ((numberTold a ≡ numberFrom h) × (ws.0 ≡ afterNumber h a)))) ∷ []) ∵ pick ! (λ ws.
-      split ! $ move ! (1 ∷ []) $ heard ! ((numberTold a ≡ numberFrom h) × (ws.0 ≡ afterNumber h a)) (λ e. fsplit ! $ move ! (1 ∷ []) $ drop ! $ rewrite ! 0 (λ (d : Reader). ‵ (fres δ (Rd.coded.code d))) e.1 refl $ says ! e.0 $ done !))
+  pub number_said : (a : NumberRead) → ent 𝓤 (NumberSaid a) (sep 𝓤 (A.res δ (Rd.coded.code (after_number h a))) (fact 𝓤 (number_told a ≡ number_from h)))
+  number_said a =
+      qed 𝓛 (some (λ (ws : Reader × Unit {0}). ‵ (lasts number.ended κs (ref, tt) ws) ⊛ raw (fact 𝓤 ((number_told a ≡ number_from h) × (ws.0 ≡ after_number h a)))) ∷ []) ∵ pick ! (λ ws.
+      split ! $ move ! (1 ∷ []) $ heard ! ((number_told a ≡ number_from h) × (ws.0 ≡ after_number h a)) (λ e. fsplit ! $ move ! (1 ∷ []) $ drop ! $ rewrite ! 0 (λ (d : Reader). ‵ (fres δ (Rd.coded.code d))) e.1 refl $ says ! e.0 $ done !))
 
   module _ (levels sources : ℕ) where
     abbrev passed : MutBor Reader × (ℕ × (ℕ × Unit {0}))
     passed = (ref, (levels, (sources, tt)))
 
-    abbrev pub to-expression : (NextExpression 𝓛 mem run).Ghost
-    to-expression = ((κs, (ql, (qr, tt)), (meet_⊑_right (ν ∷ []) κ, tt), passed, (vptr l 0 ∷ [], (vint w32 levels ∷ [], (vint w32 sources ∷ [], tt)))), tt)
+    abbrev pub to_expression : (NextExpression 𝓛 mem run).Ghost
+    to_expression = ((κs, (ql, (qr, tt)), (meet_⊑_right (ν ∷ []) κ, tt), passed, (vptr l 0 ∷ [], (vint w32 levels ∷ [], (vint w32 sources ∷ [], tt)))), tt)
 
-    pub goes-expression : levels < 2 ^ 32 → sources < 2 ^ 32 → ent 𝓤 (Passed 𝓛 κ q l ν h δ) ((NextExpression 𝓛 mem run).pre to-expression)
-    goes-expression l-fits s-fits =
+    pub goes_expression : levels < 2 ^ 32 → sources < 2 ^ 32 → ent 𝓤 (Passed 𝓛 κ q l ν h δ) ((NextExpression 𝓛 mem run).pre to_expression)
+    goes_expression l-fits s-fits =
         qed 𝓛 (‵ (flft (ν ∷ κ) ql) ∷ ‵ (flft κ qr) ∷ ‵ ((MutRef (named 0) (ν ∷ κ) Rd).own_val ref (vptr l 0 ∷ [])) ∷ []) ∵
         nothing ! $ move ! (2 ∷ 0 ∷ []) $ join ! $ move ! (1 ∷ 0 ∷ []) $ join ! $
         nothing ! $ owned ! u32 (Is u32) (uint_Makes 𝓛 w32) sources _ (refl, s-fits) $ fjoin ! $ owned ! u32 (Is u32) (uint_Makes 𝓛 w32) levels _ (refl, l-fits) $ fjoin ! $
@@ -97,9 +97,9 @@ module _ {M : Type 1} {𝓤 : Ura M} (𝓛 : Logic 𝓤) (mem : Memory → SProp
     ExpressionSaid e = ensured 𝓛 expression.ended (expression.clauses 𝓛 mem run) κs passed tt e
 
     abbrev Told : ExpressionRead → Type 0
-    Told e = (rules : ℕ) → e ≡ expressionFrom levels sources rules h
+    Told e = (rules : ℕ) → e ≡ expression_from levels sources rules h
 
-    pub expression-said : (e : ExpressionRead) → ent 𝓤 (ExpressionSaid e) (sep 𝓤 (A.res δ (Rd.coded.code (afterExpression h e))) (fact 𝓤 (Told e)))
-    expression-said e =
-        qed 𝓛 (some (λ (ws : Reader × (Unit {0} × (Unit {0} × Unit {0}))). ‵ (lasts expression.ended κs passed ws) ⊛ raw (fact 𝓤 (Told e × (ws.0 ≡ afterExpression h e)))) ∷ []) ∵ pick ! (λ ws.
-        split ! $ move ! (1 ∷ []) $ heard ! (Told e × (ws.0 ≡ afterExpression h e)) (λ said. fsplit ! $ move ! (1 ∷ []) $ drop ! $ rewrite ! 0 (λ (d : Reader). ‵ (fres δ (Rd.coded.code d))) said.1 refl $ says ! said.0 $ done !))
+    pub expression_said : (e : ExpressionRead) → ent 𝓤 (ExpressionSaid e) (sep 𝓤 (A.res δ (Rd.coded.code (after_expression h e))) (fact 𝓤 (Told e)))
+    expression_said e =
+        qed 𝓛 (some (λ (ws : Reader × (Unit {0} × (Unit {0} × Unit {0}))). ‵ (lasts expression.ended κs passed ws) ⊛ raw (fact 𝓤 (Told e × (ws.0 ≡ after_expression h e)))) ∷ []) ∵ pick ! (λ ws.
+        split ! $ move ! (1 ∷ []) $ heard ! (Told e × (ws.0 ≡ after_expression h e)) (λ said. fsplit ! $ move ! (1 ∷ []) $ drop ! $ rewrite ! 0 (λ (d : Reader). ‵ (fres δ (Rd.coded.code d))) said.1 refl $ says ! said.0 $ done !))

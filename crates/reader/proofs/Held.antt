@@ -48,14 +48,14 @@ module _ {M : Type 1} {𝓤 : Ura M} (𝓛 : Logic 𝓤) (κ : Lft) where
   vd h = (h.book, (h.at, tt))
 
   -- the machine value of the book
-  abbrev pub bookVal : Reader → Val
-  bookVal h = slice_val h.book.ref_ptr (length h.book.now)
+  abbrev pub book_val : Reader → Val
+  book_val h = slice_val h.book.ref_ptr (length h.book.now)
 
   abbrev pub Own : Reader → Fml
   Own h = R.own h (T'.lowered h ∷ [])
 
   abbrev pub Book : Reader → Fml
-  Book h = (ShrSlice (named 0) κ u8).own_val h.book (bookVal h ∷ [])
+  Book h = (ShrSlice (named 0) κ u8).own_val h.book (book_val h ∷ [])
 
   pub shares : (h : Reader) → ent 𝓤 (sem 𝓛 (Own h)) (sep 𝓤 (sem 𝓛 (Book h)) (sem 𝓛 (Own h)))
   shares h =

@@ -75,9 +75,9 @@ module _ {M : Type 1} {𝓤 : Ura M} (𝓛 : Logic 𝓤) (κ : Lft) where
         spelt ! Rd (Is Rd) (shows 𝓛 Rd) (LL.vals (D 𝓛 κ) (L 𝓛 κ)) (LL.tells (D 𝓛 κ) (L 𝓛 κ)) full_share h vs l 0 $
         use1 𝓛 (‵ (Cell h l)) (𝓛.laws.raw_at full_share (T'.mir erased) l 0 (T'.lowered h)) $ move ! (2 ∷ 3 ∷ []) $ use2 𝓛 (‵ (flft κ q)) (𝓛.lfts.lft_join κ q) $ at_once ! $ keep ! (0 ∷ 1 ∷ 2 ∷ []) $ done !)
 
-  pub goes-out : (q : Share) (l : ℕ) (h : Reader) → ent 𝓤 (sep 𝓤 (A.lft κ q) (sep 𝓤 (sem 𝓛 (Cell h l)) (sem 𝓛 (Own 𝓛 κ h)))) (H.⇛ (ex 𝓤 (λ (ν : ℕ). ex 𝓤 (λ (δ : GName). sep 𝓤 (Passed q l ν h δ) (Loan q l ν δ)))))
+  pub goes_out : (q : Share) (l : ℕ) (h : Reader) → ent 𝓤 (sep 𝓤 (A.lft κ q) (sep 𝓤 (sem 𝓛 (Cell h l)) (sem 𝓛 (Own 𝓛 κ h)))) (H.⇛ (ex 𝓤 (λ (ν : ℕ). ex 𝓤 (λ (δ : GName). sep 𝓤 (Passed q l ν h δ) (Loan q l ν δ)))))
   unfolding part_of
-  goes-out q l h =
+  goes_out q l h =
       qed 𝓛 (‵ (flft κ q) ∷ ‵ (Cell h l) ∷ ‵ (Own 𝓛 κ h) ∷ []) ∵ updating ! $ lft_new ! tt (λ ν.
       use2 𝓛 (‵ (flft (ν ∷ κ) (ql q l ν)) ⊛ ‵ (flft κ (qr q l ν)) ⊛ raw (Way q l ν)) (cuts q l ν) $ split3 ! $
       move ! (3 ∷ []) $ use1 𝓛 (‵ (cell_at full_share Rd.mir (T'.lowered h ∷ []) l 0)) (𝓛.laws.at_raw full_share (T'.mir erased) l 0 (T'.lowered h)) $

@@ -11,34 +11,34 @@ use Rattle.expressions.specs.declared.ExpressionRead.TheVariants.{Got, Refused}
 use Rattle.reader.specs.declared.Reader.{Reader}
 
 -- what the covered readers tell of a place
-abbrev pub numberTold : NumberRead → Numeral
-numberTold = toldNumber
+abbrev pub number_told : NumberRead → Numeral
+number_told = toldNumber
 
-abbrev pub expressionAt : (levels sources rules : ℕ) → List ℕ → ℕ → ExpressionRead
-expressionAt levels sources rules s at = told (expression levels s (stand at rules sources))
+abbrev pub expression_at : (levels sources rules : ℕ) → List ℕ → ℕ → ExpressionRead
+expression_at levels sources rules s at = told (expression levels s (stand at rules sources))
 
 -- the place after what was asked for; a refusal leaves the place
-abbrev pub pastNumber : ℕ → NumberRead → ℕ
-pastNumber at (GotNumber v next) = next
-pastNumber at (NoNumber n) = at
+abbrev pub past_number : ℕ → NumberRead → ℕ
+past_number at (GotNumber v next) = next
+past_number at (NoNumber n) = at
 
-abbrev pub pastExpression : ℕ → ExpressionRead → ℕ
-pastExpression at (Got next sources) = next
-pastExpression at (Refused n place) = at
+abbrev pub past_expression : ℕ → ExpressionRead → ℕ
+past_expression at (Got next sources) = next
+past_expression at (Refused n place) = at
 
 -- what stands where a reader stands
-abbrev pub numberFrom : Reader → Numeral
-numberFrom r = number_at r.book.now r.at
+abbrev pub number_from : Reader → Numeral
+number_from r = number_at r.book.now r.at
 
-abbrev pub expressionFrom : (levels sources rules : ℕ) → Reader → ExpressionRead
-expressionFrom levels sources rules r = expressionAt levels sources rules r.book.now r.at
+abbrev pub expression_from : (levels sources rules : ℕ) → Reader → ExpressionRead
+expression_from levels sources rules r = expression_at levels sources rules r.book.now r.at
 
 -- the same book, at the place after an answer
 abbrev pub moved_to : Reader → ℕ → Reader
 moved_to r at = record { book = r.book; at = at }
 
-abbrev pub afterNumber : Reader → NumberRead → Reader
-afterNumber r n = moved_to r (pastNumber r.at n)
+abbrev pub after_number : Reader → NumberRead → Reader
+after_number r n = moved_to r (past_number r.at n)
 
-abbrev pub afterExpression : Reader → ExpressionRead → Reader
-afterExpression r e = moved_to r (pastExpression r.at e)
+abbrev pub after_expression : Reader → ExpressionRead → Reader
+after_expression r e = moved_to r (past_expression r.at e)

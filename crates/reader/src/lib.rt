@@ -2,7 +2,7 @@
 // `read_pair`, at the end, has plain parameters and the record inside: whoever calls it needs no proof by hand.
 ghost use Rattle.std.specs.Prelude.{◌≡◌, ℕ, drop};
 ghost use Rattle.model.specs.Number.{number_at};
-ghost use Rattle.reader.specs.Moved.{numberTold, expressionAt, pastNumber, pastExpression, numberFrom, afterNumber, expressionFrom, afterExpression};
+ghost use Rattle.reader.specs.Moved.{number_told, expression_at, past_number, past_expression, number_from, after_number, expression_from, after_expression};
 
 use expressions::{ExpressionRead, read_expression};
 use numbers::{NumberRead, read_number};
@@ -15,7 +15,7 @@ pub struct Reader<'a> {
 
 // Where a reader stands after it asked for a number. A refusal leaves it where it stood.
 fn past_number(found: NumberRead, at: usize) -> usize
-    ensures { result ≡ pastNumber at found }
+    ensures { result ≡ past_number at found }
 {
     match found {
         NumberRead::Got(_, next) => next,
@@ -25,7 +25,7 @@ fn past_number(found: NumberRead, at: usize) -> usize
 
 // Where a reader stands after it asked for an expression.
 fn past_expression(found: ExpressionRead, at: usize) -> usize
-    ensures { result ≡ pastExpression at found }
+    ensures { result ≡ past_expression at found }
 {
     match found {
         ExpressionRead::Got(next, _) => next,
@@ -63,7 +63,7 @@ pub fn rest<'a>(r: Reader<'a>) -> &'a [u8]
 
 // The next number. The reader moves past it.
 pub fn next_number<'s, 'a>(r: &'s mut Reader<'a>) -> NumberRead
-    ensures { (numberTold result ≡ numberFrom r.old) × (r.new ≡ afterNumber r.old result) }
+    ensures { (number_told result ≡ number_from r.old) × (r.new ≡ after_number r.old result) }
 {
     let at = r.at;
     let found = read_number(r.book, at);
@@ -73,7 +73,7 @@ pub fn next_number<'s, 'a>(r: &'s mut Reader<'a>) -> NumberRead
 
 // The next expression, which may enter so many levels, where so many kinds 3 stand before it. The reader moves past it.
 pub fn next_expression<'s, 'a>(r: &'s mut Reader<'a>, levels: u32, sources: u32) -> ExpressionRead
-    ensures { ((rules : ℕ) → result ≡ expressionFrom levels sources rules r.old) × (r.new ≡ afterExpression r.old result) }
+    ensures { ((rules : ℕ) → result ≡ expression_from levels sources rules r.old) × (r.new ≡ after_expression r.old result) }
 {
     let at = r.at;
     let found = read_expression(r.book, at, levels, sources);
@@ -90,7 +90,7 @@ pub struct Pair {
 }
 
 pub fn read_pair(book: &[u8], at: usize, levels: u32, sources: u32) -> Pair
-    ensures { (numberTold result.number ≡ number_at book.now at) × ((rules : ℕ) → result.expression ≡ expressionAt levels sources rules book.now (pastNumber at result.number)) × (result.next ≡ pastExpression (pastNumber at result.number) result.expression) }
+    ensures { (number_told result.number ≡ number_at book.now at) × ((rules : ℕ) → result.expression ≡ expression_at levels sources rules book.now (past_number at result.number)) × (result.next ≡ past_expression (past_number at result.number) result.expression) }
 {
     let mut r = start(book);
     r.at = at;

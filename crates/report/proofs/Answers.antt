@@ -10,7 +10,7 @@ use lib.ListN.{length, take, drop, length-append}
 use lib.Seq.{take_at}
 use borrow.Author.Tests.{le-leb, lt-leb}
 use Rattle.text.specs.Puts.{Puts}
-use Rattle.report.specs.Reports.{answer_of, textAfter}
+use Rattle.report.specs.Reports.{answer_of, text_after}
 use Rattle.model.specs.Answer.{when}
 use Rattle.model.specs.Filling.{put}
 use Rattle.model.proofs.Filling.{put_front}
@@ -27,22 +27,22 @@ module _ (w t : List ℕ) (n : ℕ) (buf : List ℕ) (p : Puts w 0 t n buf) wher
   pub as_long : n ≡ length (take n buf)
   as_long = counted ∙ ap length (sym written)
 
-  pub short : (text : List ℕ) → length text < n → (Short n ≡ answer_of t (length text)) × (text ≡ textAfter t text)
-  unfolding answer_of textAfter
+  pub short : (text : List ℕ) → length text < n → (Short n ≡ answer_of t (length text)) × (text ≡ text_after t text)
+  unfolding answer_of text_after
   short text lt =
       let k : leb (length t) (length text) ≡ _ = lt-leb (length t) (length text) (omega (arith, counted)) in
       (rw (k, counted), rw k)
 
-  pub handed : (text : List ℕ) → n ≤ length text → (r : ℕ) (text' : List ℕ) → Puts text 0 (take n buf) r text' → (Bytes n ≡ answer_of t (length text)) × (text' ≡ textAfter t text)
-  unfolding answer_of textAfter
+  pub handed : (text : List ℕ) → n ≤ length text → (r : ℕ) (text' : List ℕ) → Puts text 0 (take n buf) r text' → (Bytes n ≡ answer_of t (length text)) × (text' ≡ text_after t text)
+  unfolding answer_of text_after
   handed text le r text' q =
       let k : leb (length t) (length text) ≡ _ = le-leb (length t) (length text) (omega (arith, counted)) in
       (rw (k, counted), rw k (q.written ∙ ap (put text 0) written ∙ put_front text t))
 
 -- bytes that were written are there
-pub bytes-given : (t text text' : List ℕ) (r : Reported) (n : ℕ) → r ≡ answer_of t (length text) → text' ≡ textAfter t text → r ≡ Bytes n → n ≤ length text'
-unfolding answer_of textAfter
-bytes-given t text text' r n a e g = go (leb (length t) (length text)) (sym g ∙ a) e
+pub bytes_given : (t text text' : List ℕ) (r : Reported) (n : ℕ) → r ≡ answer_of t (length text) → text' ≡ text_after t text → r ≡ Bytes n → n ≤ length text'
+unfolding answer_of text_after
+bytes_given t text text' r n a e g = go (leb (length t) (length text)) (sym g ∙ a) e
   where
     go : (b : Bool) → Bytes n ≡ when b (Bytes (length t)) (Short (length t)) → text' ≡ when b (t ++ drop (length t) text) text → n ≤ length text'
     go true h k = let same : n ≡ length t = cc in omega (arith, ap length k, length-append t (drop (length t) text))

@@ -1,11 +1,11 @@
 // The report on a book and a plan, byte by byte.
 ghost use Rattle.std.specs.Prelude.{◌≡◌, ◌+◌, ◌*◌, ◌≤◌, ◌<◌, length};
-ghost use Rattle.model.specs.Limits.{portsMost};
+ghost use Rattle.model.specs.Limits.{ports_most};
 ghost use Rattle.model.specs.Report.{report as reportText};
-ghost use Rattle.model.specs.Entries.{wordsAfter};
+ghost use Rattle.model.specs.Entries.{words_after};
 ghost use Rattle.text.specs.Puts.{Puts};
-ghost use Rattle.report.specs.Lines.{lineMost, bodyMost, bufferBytes};
-ghost use Rattle.report.specs.Reports.{ListIn, PlanIn, BookIn, PortReviewed, PortsPut, ListPut, BodyPut, reportEntry, answer_of, textAfter};
+ghost use Rattle.report.specs.Lines.{line_most, body_most, buffer_bytes};
+ghost use Rattle.report.specs.Reports.{ListIn, PlanIn, BookIn, PortReviewed, PortsPut, ListPut, BodyPut, report_entry, answer_of, text_after};
 
 use book::{CHAINS, Contents};
 use checking::{Reading, check};
@@ -56,7 +56,7 @@ fn put_ports(
     buf: &mut [u8],
     at: usize,
 ) -> usize
-    requires { ListIn book.now words.now count × PlanIn plan × (at + portsMost * lineMost ≤ length buf.old) }
+    requires { ListIn book.now words.now count × PlanIn plan × (at + ports_most * line_most ≤ length buf.old) }
     ensures { PortsPut book.now plan buf.old at result buf.new }
 {
     let ports = plan.ports;
@@ -81,7 +81,7 @@ fn put_list(
     buf: &mut [u8],
     at: usize,
 ) -> usize
-    requires { BookIn book.now contents ranks × PlanIn plan × (at + bodyMost ≤ length buf.old) }
+    requires { BookIn book.now contents ranks × PlanIn plan × (at + body_most ≤ length buf.old) }
     ensures { ListPut book.now plan words.old words.new buf.old at result buf.new }
 {
     let rules = contents.rules;
@@ -105,7 +105,7 @@ fn put_body(
     buf: &mut [u8],
     at: usize,
 ) -> usize
-    requires { BookIn book.now contents ranks × (at + bodyMost ≤ length buf.old) }
+    requires { BookIn book.now contents ranks × (at + body_most ≤ length buf.old) }
     ensures { BodyPut book.now plan.now words.old words.new buf.old at result buf.new }
 {
     let answer = read_plan(plan);
@@ -120,9 +120,9 @@ fn put_body(
 }
 
 fn write_report(book: &[u8], plan: &[u8], words: &mut [u32], buf: &mut [u8]) -> usize
-    requires { bufferBytes ≤ length buf.old }
+    requires { buffer_bytes ≤ length buf.old }
     ensures text { Puts buf.old 0 (reportText book.now plan.now (length words.old)) result buf.new }
-    ensures lent { words.new ≡ wordsAfter (reportEntry book.now plan.now (length words.old)) book.now words.old }
+    ensures lent { words.new ≡ words_after (report_entry book.now plan.now (length words.old)) book.now words.old }
 {
     let at = put_text(buf, 0, b"spoof report 1\n");
     let checked = check(book);
@@ -140,8 +140,8 @@ fn write_report(book: &[u8], plan: &[u8], words: &mut [u32], buf: &mut [u8]) -> 
 // THE REPORT. A text that is too short for it is left as it was.
 pub fn report(book: &[u8], plan: &[u8], words: &mut [u32], text: &mut [u8]) -> Reported
     ensures answer { result ≡ answer_of (reportText book.now plan.now (length words.old)) (length text.old) }
-    ensures text { text.new ≡ textAfter (reportText book.now plan.now (length words.old)) text.old }
-    ensures lent { words.new ≡ wordsAfter (reportEntry book.now plan.now (length words.old)) book.now words.old }
+    ensures text { text.new ≡ text_after (reportText book.now plan.now (length words.old)) text.old }
+    ensures lent { words.new ≡ words_after (report_entry book.now plan.now (length words.old)) book.now words.old }
 {
     let mut buf = [0u8; BUFFER];
     let n = write_report(book, plan, words, &mut buf);

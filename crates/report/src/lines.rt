@@ -1,16 +1,16 @@
 // The report's lines, each appended to a lent buffer.
 ghost use Rattle.std.specs.Prelude.{◌+◌, ◌≤◌, length};
 ghost use Rattle.text.specs.Puts.{Puts};
-ghost use Rattle.review.specs.States.{phaseOf};
-ghost use Rattle.model.specs.Report.{verdictText};
-ghost use Rattle.report.specs.Lines.{verdictMost, lineMost, countsMost, refusalMost, portText, countsText, refusalText};
+ghost use Rattle.review.specs.States.{phase_of};
+ghost use Rattle.model.specs.Report.{verdict_text};
+ghost use Rattle.report.specs.Lines.{verdict_most, line_most, counts_most, refusal_most, port_text, counts_text, refusal_text};
 
 use review::Phase;
 use text::{put_decimal, put_dotted, put_text};
 
 pub fn put_verdict(buf: &mut [u8], at: usize, phase: Phase) -> usize
-    requires { at + verdictMost ≤ length buf.old }
-    ensures { Puts buf.old at (verdictText (phaseOf phase)) result buf.new }
+    requires { at + verdict_most ≤ length buf.old }
+    ensures { Puts buf.old at (verdict_text (phase_of phase)) result buf.new }
 {
     match phase {
         Phase::Running => at,
@@ -26,8 +26,8 @@ pub fn put_verdict(buf: &mut [u8], at: usize, phase: Phase) -> usize
 }
 
 pub fn put_port(buf: &mut [u8], at: usize, number: u32, phase: Phase) -> usize
-    requires { at + lineMost ≤ length buf.old }
-    ensures { Puts buf.old at (portText number (phaseOf phase)) result buf.new }
+    requires { at + line_most ≤ length buf.old }
+    ensures { Puts buf.old at (port_text number (phase_of phase)) result buf.new }
 {
     let a = put_text(buf, at, b"port ");
     let b = put_decimal(buf, a, number as usize);
@@ -36,8 +36,8 @@ pub fn put_port(buf: &mut [u8], at: usize, number: u32, phase: Phase) -> usize
 }
 
 pub fn put_counts(buf: &mut [u8], at: usize, rules: usize, list: usize) -> usize
-    requires { at + countsMost ≤ length buf.old }
-    ensures { Puts buf.old at (countsText rules list) result buf.new }
+    requires { at + counts_most ≤ length buf.old }
+    ensures { Puts buf.old at (counts_text rules list) result buf.new }
 {
     let a = put_text(buf, at, b"rules ");
     let b = put_decimal(buf, a, rules);
@@ -47,8 +47,8 @@ pub fn put_counts(buf: &mut [u8], at: usize, rules: usize, list: usize) -> usize
 }
 
 pub fn put_refusal(buf: &mut [u8], at: usize, number: u32, place: usize) -> usize
-    requires { at + refusalMost ≤ length buf.old }
-    ensures { Puts buf.old at (refusalText number place) result buf.new }
+    requires { at + refusal_most ≤ length buf.old }
+    ensures { Puts buf.old at (refusal_text number place) result buf.new }
 {
     let a = put_text(buf, at, b"refused ");
     let b = put_decimal(buf, a, number as usize);

@@ -12,30 +12,30 @@ use lib.ListN.{length, get_or, take, drop, take-append-drop, length-drop}
 use lib.Seq.{length-take-le}
 use Rattle.model.specs.Answer.{fine, when}
 use Rattle.model.specs.Calls.{readable}
-use Rattle.model.specs.Tree.{Expr, place_of, Rule, Book, Every, rulesOf}
+use Rattle.model.specs.Tree.{Expr, place_of, Rule, Book, Every, rules_of}
 use Rattle.model.specs.Standing.{Placed, RuleStands, BookStands}
-use Rattle.model.specs.Unfolding.{Condition, ListRule, Conditions, conditionWord, conditionWords}
-use Rattle.model.specs.Slices.{◌and-then◌, matchIn, matchAt, conditionsIn, ruleAt}
-use Rattle.model.proofs.EveryRule.{every-all}
-use Rattle.model.proofs.Placed.{readable-placed}
-use Rattle.model.proofs.ReadBack.{length-words}
-use Rattle.model.proofs.Success.{fine-is}
+use Rattle.model.specs.Unfolding.{Condition, ListRule, Conditions, condition_word, condition_words}
+use Rattle.model.specs.Slices.{◌and-then◌, match_in, match_at, conditions_in, rule_at}
+use Rattle.model.proofs.EveryRule.{every_all}
+use Rattle.model.proofs.Placed.{readable_placed}
+use Rattle.model.proofs.ReadBack.{length_words}
+use Rattle.model.proofs.Success.{fine_is}
 use Rattle.model.proofs.Tests.{cases}
 use Rattle.matching.proofs.Words.{written_of}
-use Rattle.suspects.proofs.Chains.{lt-or-le}
+use Rattle.suspects.proofs.Chains.{lt_or_le}
 use Rattle.review.specs.Known.{found}
 use Rattle.review.specs.Taken.{RuleAt}
-use Rattle.review.proofs.ToldRules.{rule-short, rule-long, rule-other, rule-is}
+use Rattle.review.proofs.ToldRules.{rule_short, rule_long, rule_other, rule_is}
 
 -- nothing is not something
-none-some : {A Z : Type 0} {a : A} → none ≡ some a → Z
-none-some {a = a} e = absurd (true≢false (sym (ap found e)))
+none_some : {A Z : Type 0} {a : A} → none ≡ some a → Z
+none_some {a = a} e = absurd (true≢false (sym (ap found e)))
 
 same_some : {A : Type 0} {a b : A} → some a ≡ some b → a ≡ b
 same_some e = cc
 
 then_some : {A B : Type 0} (o : Option A) (k : A → Option B) (c : B) → ◌and-then◌ o k ≡ some c → (a : A) × (o ≡ some a) × (k a ≡ some c)
-then_some none k c e = none-some e
+then_some none k c e = none_some e
 then_some (some a) k c e = (a, refl, e)
 
 pub found_some : {A : Type 0} (o : Option A) → true ≡ found o → (a : A) × (o ≡ some a)
@@ -53,55 +53,55 @@ word_back w = cases (λ t. 2 * (w / 2) + when t 1 0 ≡ w) (eqb (w % 2) 1) (λ e
     even : (w % 2 ≡ 1 → ⊥) → 2 * (w / 2) + 0 ≡ w
     even ne = omega arith
 
-matched : (s : List ℕ) (at : ℕ) (rs : List Rule) → Every (RuleStands s) rs → (e : Expr) → matchIn at rs ≡ some e → (place_of e ≡ at) × Placed s e
-unfolding matchIn
-matched s at [] h e q = none-some q
+matched : (s : List ℕ) (at : ℕ) (rs : List Rule) → Every (RuleStands s) rs → (e : Expr) → match_in at rs ≡ some e → (place_of e ≡ at) × Placed s e
+unfolding match_in
+matched s at [] h e q = none_some q
 matched s at (r ∷ rs) h e q = go (matched s at rs h.1 e) (eqb (place_of r.match) at) refl q
   where
-    go : (matchIn at rs ≡ some e → (place_of e ≡ at) × Placed s e) → (t : Bool) → eqb (place_of r.match) at ≡ t → when t (some r.match) (matchIn at rs) ≡ some e → (place_of e ≡ at) × Placed s e
+    go : (match_in at rs ≡ some e → (place_of e ≡ at) × Placed s e) → (t : Bool) → eqb (place_of r.match) at ≡ t → when t (some r.match) (match_in at rs) ≡ some e → (place_of e ≡ at) × Placed s e
     go rest true p q = subst (λ e. (place_of e ≡ at) × Placed s e) (same_some q) (eqb-true (place_of r.match) at p, record { next = r.next; stands = h.0 })
     go rest false p q = rest q
 
 module _ (s : List ℕ) (b : Book) (read : readable s ≡ fine b) where
-  stand : Every (RuleStands s) (rulesOf b)
-  stand = every-all (RuleStands s) b.chains (fine-is (BookStands s) (readable s) b (readable-placed s) read)
+  stand : Every (RuleStands s) (rules_of b)
+  stand = every_all (RuleStands s) b.chains (fine_is (BookStands s) (readable s) b (readable_placed s) read)
 
-  conditions-are : (ws : List ℕ) (cs : List Condition) → conditionsIn b ws ≡ some cs → (conditionWords cs ≡ ws) × Conditions (Placed s) cs
-  unfolding conditionsIn
-  conditions-are [] cs e = subst (λ cs. (conditionWords cs ≡ []) × Conditions (Placed s) cs) (same_some e) (refl, tt)
-  conditions-are (w ∷ ws) cs e =
-      let m = then_some (matchAt (w / 2) b) _ cs e in
-      let l = then_some (conditionsIn b ws) _ cs m.2 in
-      let p = matched s (w / 2) (rulesOf b) stand m.0 m.1 in
-      let i = conditions-are ws l.0 l.1 in
+  conditions_are : (ws : List ℕ) (cs : List Condition) → conditions_in b ws ≡ some cs → (condition_words cs ≡ ws) × Conditions (Placed s) cs
+  unfolding conditions_in
+  conditions_are [] cs e = subst (λ cs. (condition_words cs ≡ []) × Conditions (Placed s) cs) (same_some e) (refl, tt)
+  conditions_are (w ∷ ws) cs e =
+      let m = then_some (match_at (w / 2) b) _ cs e in
+      let l = then_some (conditions_in b ws) _ cs m.2 in
+      let p = matched s (w / 2) (rules_of b) stand m.0 m.1 in
+      let i = conditions_are ws l.0 l.1 in
       let c : Condition = record { negated = eqb (w % 2) 1; match = m.0 } in
-      let k : conditionWord c ≡ w = ap (λ at. 2 * at + when (eqb (w % 2) 1) 1 0) p.0 ∙ word_back w in
-      subst (λ cs. (conditionWords cs ≡ w ∷ ws) × Conditions (Placed s) cs) (same_some l.2) (ap₂ ◌∷◌ k i.0, (p.1, i.1))
+      let k : condition_word c ≡ w = ap (λ at. 2 * at + when (eqb (w % 2) 1) 1 0) p.0 ∙ word_back w in
+      subst (λ cs. (condition_words cs ≡ w ∷ ws) × Conditions (Placed s) cs) (same_some l.2) (ap₂ ◌∷◌ k i.0, (p.1, i.1))
 
   module _ (words : List ℕ) (place : ℕ) where
     abbrev count : ℕ
     count = get_or words (place + 2) 0
 
-    module _ (r : ListRule) (e : ruleAt b words place ≡ some r) where
-      not_none : false ≡ found (ruleAt b words place) → ⊥
+    module _ (r : ListRule) (e : rule_at b words place ≡ some r) where
+      not_none : false ≡ found (rule_at b words place) → ⊥
       not_none f = true≢false (sym (f ∙ ap found e))
 
       three : place + 3 ≤ length words
-      three = ⊎_elim (λ h. absurd (not_none (rule-short b words place h))) (λ h. h) (lt-or-le (length words) (place + 3))
+      three = ⊎_elim (λ h. absurd (not_none (rule_short b words place h))) (λ h. h) (lt_or_le (length words) (place + 3))
 
       room : place + 3 + count ≤ length words
-      room = ⊎_elim (λ h. absurd (not_none (rule-long b words place three h))) (λ h. h) (lt-or-le (length words) (place + 3 + count))
+      room = ⊎_elim (λ h. absurd (not_none (rule_long b words place three h))) (λ h. h) (lt_or_le (length words) (place + 3 + count))
 
       action : get_or words place 0 ≤ 1
-      action = ⊎_elim (λ h. absurd (not_none (rule-other b words place three room h))) (λ h. h) (lt-or-le 1 (get_or words place 0))
+      action = ⊎_elim (λ h. absurd (not_none (rule_other b words place three room h))) (λ h. h) (lt_or_le 1 (get_or words place 0))
 
-      pub rule-stands : RuleAt s words place r
-      rule-stands =
+      pub rule_stands : RuleAt s words place r
+      rule_stands =
           let part = take count (drop (place + 3) words) in
-          let l = then_some (conditionsIn b part) _ r (sym (rule-is b words place three room action) ∙ e) in
-          let i = conditions-are part l.0 l.1 in
-          let long : length l.0 ≡ count = sym (length-words l.0) ∙ ap length i.0 ∙ length-take-le count (drop (place + 3) words) (omega (arith, length-drop (place + 3) words, room)) in
-          let split : drop (place + 3) words ≡ conditionWords l.0 ++ drop count (drop (place + 3) words) = sym (take-append-drop count (drop (place + 3) words)) ∙ ap (λ p. p ++ drop count (drop (place + 3) words)) (sym i.0) in
+          let l = then_some (conditions_in b part) _ r (sym (rule_is b words place three room action) ∙ e) in
+          let i = conditions_are part l.0 l.1 in
+          let long : length l.0 ≡ count = sym (length_words l.0) ∙ ap length i.0 ∙ length-take-le count (drop (place + 3) words) (omega (arith, length-drop (place + 3) words, room)) in
+          let split : drop (place + 3) words ≡ condition_words l.0 ++ drop count (drop (place + 3) words) = sym (take-append-drop count (drop (place + 3) words)) ∙ ap (λ p. p ++ drop count (drop (place + 3) words)) (sym i.0) in
           subst (RuleAt s words place) (same_some l.2) (record {
             action = refl;
             number = refl;

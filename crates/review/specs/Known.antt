@@ -4,7 +4,7 @@ use Rattle.std.proofs.Math.Option.{Option, none, some}
 use Rattle.model.specs.Answer.{fine}
 use Rattle.model.specs.Tree.{Book}
 use Rattle.model.specs.Calls.{readable}
-use Rattle.book.specs.Contents.{contentsOf}
+use Rattle.book.specs.Contents.{contents_of}
 
 abbrev pub found : {A : Type 0} → Option A → Bool
 found none = false
@@ -14,8 +14,8 @@ found (some a) = true
 pub record Known (expression : List ℕ) (rules : ℕ) (b : Book) : Type 0 where
   pub bytes : List ℕ
   pub read : readable bytes ≡ fine b
-  pub column : expression ≡ (contentsOf b).expression
-  pub total : rules ≡ (contentsOf b).rules
+  pub column : expression ≡ (contents_of b).expression
+  pub total : rules ≡ (contents_of b).rules
 
 -- of some book, and of whatever book has them
 pub record HasBook (expression : List ℕ) (rules : ℕ) : Type 0 where
@@ -29,5 +29,5 @@ OfBook expression rules goal = (b : Book) → Known expression rules b → goal 
 pub record ReadFrom (s expression : List ℕ) (rules : ℕ) : Type 0 where
   pub book : Book
   pub read : readable s ≡ fine book
-  pub column : expression ≡ (contentsOf book).expression
-  pub total : rules ≡ (contentsOf book).rules
+  pub column : expression ≡ (contents_of book).expression
+  pub total : rules ≡ (contents_of book).rules

@@ -3,7 +3,7 @@ use Rattle.std.specs.Prelude.{ℕ, List, ◌++◌, ◌≡◌, length}
 use Rattle.model.specs.Answer.{Answer, fine, refused}
 use Rattle.model.specs.Unfolding.{words_of}
 use Rattle.model.specs.Review as model
-use Rattle.model.specs.Entries.{Inputs, listIn, suspectsIn}
+use Rattle.model.specs.Entries.{Inputs, list_in, suspects_in}
 use Rattle.suspects.specs.declared.Suspects.{Suspects}
 use Rattle.suspects.specs.Slots.{writes}
 use Rattle.review.specs.declared.Reviewed.{Reviewed}
@@ -14,12 +14,12 @@ pub record Reviewable (book words : List ℕ) (count port : ℕ) (s : Suspects) 
   pub plan : List ℕ
   pub inputs : Inputs book plan port
   pub others : List ℕ
-  pub are : words ≡ words_of (listIn inputs) ++ others
-  pub counted : length (words_of (listIn inputs)) ≡ count
-  pub suspects : writes s (suspectsIn inputs)
+  pub are : words ≡ words_of (list_in inputs) ++ others
+  pub counted : length (words_of (list_in inputs)) ≡ count
+  pub suspects : writes s (suspects_in inputs)
 
 -- the answer in document 01's numbers
-abbrev pub reviewTold : Reviewed → Answer model.Phase
-reviewTold reviewed.Certified = fine model.certified
-reviewTold (reviewed.Refused rule source) = fine (model.refused rule.0 source)
-reviewTold (reviewed.Refusal n p) = refused n p
+abbrev pub review_told : Reviewed → Answer model.Phase
+review_told reviewed.Certified = fine model.certified
+review_told (reviewed.Refused rule source) = fine (model.refused rule.0 source)
+review_told (reviewed.Refusal n p) = refused n p

@@ -2,7 +2,7 @@
 use Rattle.std.specs.Prelude.{ℕ, List, [], ◌≡◌}
 use Rattle.model.specs.Answer.{Answer, fine, refused, ◌>>=◌}
 use Rattle.model.specs.Tree.{Book}
-use Rattle.model.specs.Plan.{plan_of, rangesOf}
+use Rattle.model.specs.Plan.{plan_of, ranges_of}
 use Rattle.model.specs.Spans.{Spans}
 use Rattle.model.specs.Review as model
 use Rattle.model.specs.Slices as slices
@@ -16,21 +16,21 @@ use Rattle.review.specs.declared.Started.{Started}
 use Rattle.review.specs.States.{state_of}
 
 -- the answer in document 01's numbers
-abbrev pub startTold : Listed → State → Answer entries.Started
-startTold (listed.Counts w n) s = fine (record { counts = record { words = w; rules = n }; state = state_of s })
-startTold (listed.Refused n p) s = refused n p
+abbrev pub start_told : Listed → State → Answer entries.Started
+start_told (listed.Counts w n) s = fine (record { counts = record { words = w; rules = n }; state = state_of s })
+start_told (listed.Refused n p) s = refused n p
 
 -- once the port's ranges are known, and once the book is read
-abbrev pub startOn : Book → Spans → ℕ → ℕ → Answer entries.Started
-startOn b ranges port lent = do
+abbrev pub start_on : Book → Spans → ℕ → ℕ → Answer entries.Started
+start_on b ranges port lent = do
   list ← room lent b
   fine (started port ranges list)
 
-abbrev pub startBehind : Book → List ℕ → ℕ → ℕ → Answer entries.Started
-startBehind b plan port lent = do
+abbrev pub start_behind : Book → List ℕ → ℕ → ℕ → Answer entries.Started
+start_behind b plan port lent = do
   ports ← plan_of plan
-  ranges ← rangesOf port ports
-  startOn b ranges port lent
+  ranges ← ranges_of port ports
+  start_on b ranges port lent
 
 -- the lent words after it
 abbrev pub leaves : Answer entries.Started → Book → List ℕ → List ℕ
@@ -38,15 +38,15 @@ leaves (fine a) b lent = filled lent (fine b)
 leaves (refused n p) b lent = lent
 
 -- the state beside a refusal is refused, whatever the port
-abbrev pub noState : slices.State
-noState = written 0 [] 0 (model.refused 0 0)
+abbrev pub no_state : slices.State
+no_state = written 0 [] 0 (model.refused 0 0)
 
 pub record NotStarted (n p : ℕ) (r : Started) : Type 0 where
   pub answer : r.answer ≡ listed.Refused n p
-  pub state : state_of r.state ≡ noState
+  pub state : state_of r.state ≡ no_state
 
 -- the answer is a, and the lent words are left as w
 pub record Starts (a : Answer entries.Started) (w : List ℕ) (r : Started) (after : List ℕ) : Type 0 where
-  pub answer : startTold r.answer r.state ≡ a
+  pub answer : start_told r.answer r.state ≡ a
   pub lent : after ≡ w
-  pub stopped : (n p : ℕ) → a ≡ refused n p → state_of r.state ≡ noState
+  pub stopped : (n p : ℕ) → a ≡ refused n p → state_of r.state ≡ no_state

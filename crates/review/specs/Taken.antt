@@ -1,9 +1,9 @@
 -- One rule of the list as it stands in words, and what it does to the suspects. Definitions only.
 use Rattle.std.specs.Prelude.{ℕ, ◌+◌, ◌≤◌, true, List, ◌≡◌, eqb, length, get_or}
-use Rattle.model.specs.Limits.{spansMost}
+use Rattle.model.specs.Limits.{spans_most}
 use Rattle.model.specs.Unfolding.{ListRule}
 use Rattle.model.specs.Spans.{Spans}
-use Rattle.model.specs.Review.{mayPass, leftAfter}
+use Rattle.model.specs.Review.{may_pass, left_after}
 use Rattle.matching.specs.Conditions.{Written}
 use Rattle.suspects.specs.Slots.{Made}
 use Rattle.sweep.specs.declared.Lowest.TheVariants.{At, Nothing}
@@ -26,8 +26,8 @@ pub record HasRule (s words : List ℕ) (at : ℕ) : Type 0 where
 
 -- an accept rule refuses with the lowest suspect that it may accept; any other leaves the suspects that the model says
 abbrev pub TakenAs : ℕ → ListRule → Spans → Taken → List ℕ → List ℕ → Type 0
-TakenAs port r ss (Refused rule source) low high = (eqb r.action 0 ≡ true) × (rule.0 ≡ r.number) × (lowest (mayPass port r ss) ≡ At source)
-TakenAs port r ss (Left n) low high = (eqb r.action 0 ≡ true → lowest (mayPass port r ss) ≡ Nothing) × Made spansMost (leftAfter port r ss) n low high
+TakenAs port r ss (Refused rule source) low high = (eqb r.action 0 ≡ true) × (rule.0 ≡ r.number) × (lowest (may_pass port r ss) ≡ At source)
+TakenAs port r ss (Left n) low high = (eqb r.action 0 ≡ true → lowest (may_pass port r ss) ≡ Nothing) × Made spans_most (left_after port r ss) n low high
 
 -- of whatever rule stands there, and whatever set in the slots
 abbrev pub TakesRule : List ℕ → List ℕ → ℕ → ℕ → ℕ → List ℕ → List ℕ → Taken → List ℕ → List ℕ → Type 0

@@ -5,12 +5,12 @@ ghost use Rattle.model.specs.Answer.{fine};
 ghost use Rattle.model.specs.Tree.{Book};
 ghost use Rattle.model.specs.Calls.{readable};
 ghost use Rattle.model.specs.Spans.{complement};
-ghost use Rattle.model.specs.Entries.{startEntry, wordsAfter};
-ghost use Rattle.book.specs.Contents.{contentsOf};
-ghost use Rattle.plan.specs.Contents.{PlanShape, rangesAt};
+ghost use Rattle.model.specs.Entries.{start_entry, words_after};
+ghost use Rattle.book.specs.Contents.{contents_of};
+ghost use Rattle.plan.specs.Contents.{PlanShape, ranges_at};
 ghost use Rattle.suspects.specs.Slots.{writes};
 ghost use Rattle.listing.specs.Listings.{Ready};
-ghost use Rattle.review.specs.Starts.{startOn, startBehind, leaves, NotStarted, Starts};
+ghost use Rattle.review.specs.Starts.{start_on, start_behind, leaves, NotStarted, Starts};
 
 use super::{Phase, Started, State};
 use book::{CHAINS, Contents, RuleNumber};
@@ -39,7 +39,7 @@ fn not_started(n: u32, place: usize) -> Started
 // Suspect is every source outside the ranges of port `i` of the plan.
 pub fn port_suspects(plan: PlanContents, i: usize) -> Suspects
     requires { PlanShape plan × (i < plan.ports) }
-    ensures { writes result (complement greatest (rangesAt plan i)) }
+    ensures { writes result (complement greatest (ranges_at plan i)) }
 {
     let first = plan.first;
     let low = plan.low;
@@ -59,7 +59,7 @@ fn start_port(
     words: &mut [u32],
 ) -> Started
     requires { Ready contents ranks × PlanShape plan × (i < plan.ports) }
-    ensures { (s : List ℕ) (b : Book) → readable s ≡ fine b → contents ≡ contentsOf b → Starts (startOn b (rangesAt plan i) port (length words.old)) (leaves (startOn b (rangesAt plan i) port (length words.old)) b words.old) result words.new }
+    ensures { (s : List ℕ) (b : Book) → readable s ≡ fine b → contents ≡ contents_of b → Starts (start_on b (ranges_at plan i) port (length words.old)) (leaves (start_on b (ranges_at plan i) port (length words.old)) b words.old) result words.new }
 {
     let listed = list_book(contents, ranks, words);
     match listed {
@@ -89,7 +89,7 @@ fn start_read(
     words: &mut [u32],
 ) -> Started
     requires { Ready contents ranks }
-    ensures { (s : List ℕ) (b : Book) → readable s ≡ fine b → contents ≡ contentsOf b → Starts (startBehind b plan.now port (length words.old)) (leaves (startBehind b plan.now port (length words.old)) b words.old) result words.new }
+    ensures { (s : List ℕ) (b : Book) → readable s ≡ fine b → contents ≡ contents_of b → Starts (start_behind b plan.now port (length words.old)) (leaves (start_behind b plan.now port (length words.old)) b words.old) result words.new }
 {
     let answer = read_plan(plan);
     let ports = answer.contents;
@@ -109,7 +109,7 @@ fn start_read(
 
 // THE START: 1 to 10, then 11, 12, 13; and then unfolding's two counts, and a state that runs at word 0.
 pub fn start(book: &[u8], plan: &[u8], port: u32, words: &mut [u32]) -> Started
-    ensures { Starts (startEntry book.now plan.now port (length words.old)) (wordsAfter (startEntry book.now plan.now port (length words.old)) book.now words.old) result words.new }
+    ensures { Starts (start_entry book.now plan.now port (length words.old)) (words_after (start_entry book.now plan.now port (length words.old)) book.now words.old) result words.new }
 {
     let checked = check(book);
     let reading = checked.reading;

@@ -1,6 +1,6 @@
 // Whether a rule of the list stands at a place of words that a caller handed in: any numbers may stand in them.
 ghost use Rattle.std.specs.Prelude.{◌≡◌, ◌+◌, ◌≤◌, ◌/◌, length, take, drop};
-ghost use Rattle.model.specs.Slices.{matchAt, conditionsIn, ruleAt};
+ghost use Rattle.model.specs.Slices.{match_at, conditions_in, rule_at};
 ghost use Rattle.review.specs.Known.{HasBook, OfBook, found};
 
 use book::RULES;
@@ -8,7 +8,7 @@ use book::RULES;
 // Whether a rule's own expression starts at a place of the book. These places rise with the rules' numbers, so they are searched by halves.
 pub fn is_rule_expression(expression: &[u32; RULES], rules: usize, at: u32) -> bool
     requires { HasBook expression.now rules }
-    ensures { OfBook expression.now rules (λ b. result ≡ found (matchAt at b)) }
+    ensures { OfBook expression.now rules (λ b. result ≡ found (match_at at b)) }
 {
     let mut low: usize = 0;
     let mut high = rules;
@@ -36,7 +36,7 @@ pub fn are_conditions(
     rules: usize,
 ) -> bool
     requires { HasBook expression.now rules × (from + count ≤ length words.now) }
-    ensures { OfBook expression.now rules (λ b. result ≡ found (conditionsIn b (take count (drop from words.now)))) }
+    ensures { OfBook expression.now rules (λ b. result ≡ found (conditions_in b (take count (drop from words.now)))) }
 {
     let mut at = from;
     let mut left = count;
@@ -55,7 +55,7 @@ pub fn are_conditions(
 // What is compared is what is left of the words, so that no sum of a caller's numbers can wrap.
 pub fn is_rule(words: &[u32], place: usize, expression: &[u32; RULES], rules: usize) -> bool
     requires { HasBook expression.now rules }
-    ensures { OfBook expression.now rules (λ b. result ≡ found (ruleAt b words.now place)) }
+    ensures { OfBook expression.now rules (λ b. result ≡ found (rule_at b words.now place)) }
 {
     let len = words.len();
     if len < place {

@@ -6,9 +6,9 @@ ghost use Rattle.model.specs.Tree.{Book};
 ghost use Rattle.model.specs.Calls.{readable};
 ghost use Rattle.model.specs.Unfolding.{ListRule};
 ghost use Rattle.model.specs.Review.{certified, running};
-ghost use Rattle.model.specs.Slices.{inWriting, takeRule, step as modelStep};
-ghost use Rattle.model.specs.Entries.{stepEntry};
-ghost use Rattle.review.specs.States.{phaseOf, state_of, next, Moves, SteppedBy};
+ghost use Rattle.model.specs.Slices.{in_writing, take_rule, step as modelStep};
+ghost use Rattle.model.specs.Entries.{step_entry};
+ghost use Rattle.review.specs.States.{phase_of, state_of, next, Moves, SteppedBy};
 ghost use Rattle.review.specs.Taken.{RuleAt, HasRule};
 ghost use Rattle.review.specs.Known.{ReadFrom};
 
@@ -20,7 +20,7 @@ use suspects::{Suspects, is_written};
 
 // Certified once the last rule is done.
 fn phase_at(next: usize, end: usize) -> Phase
-    ensures { phaseOf result ≡ when (eqb next end) certified running }
+    ensures { phase_of result ≡ when (eqb next end) certified running }
 {
     if next == end {
         return Phase::Certified;
@@ -51,8 +51,8 @@ fn move_on(list: &[u32], state: State, left: Suspects) -> Stepped
 
 // A running state, over the rule at its place. A rule that refuses leaves suspects and place as they are.
 fn step_rule(book: &[u8], list: &[u32], state: State) -> Stepped
-    requires { HasRule book.now list.now state.place × (inWriting (state_of state) ≡ true) }
-    ensures { (rule : ListRule) → RuleAt book.now list.now state.place rule → SteppedBy (takeRule list.now (state_of state) (some rule)) state result }
+    requires { HasRule book.now list.now state.place × (in_writing (state_of state) ≡ true) }
+    ensures { (rule : ListRule) → RuleAt book.now list.now state.place rule → SteppedBy (take_rule list.now (state_of state) (some rule)) state result }
 {
     let suspects = state.suspects;
     let place = state.place;
@@ -130,7 +130,7 @@ fn step_read(
 
 // ONE CALL: refusals 1 to 10, then 14 and 15. A refusal hands the state back as it was, and so does a call over a finished one.
 pub fn step(book: &[u8], list: &[u32], state: State) -> Stepped
-    ensures { SteppedBy (stepEntry book.now list.now (state_of state)) state result }
+    ensures { SteppedBy (step_entry book.now list.now (state_of state)) state result }
 {
     let checked = check(book);
     let reading = checked.reading;

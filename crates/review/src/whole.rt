@@ -1,9 +1,9 @@
 // The whole review of one port.
 ghost use Rattle.std.specs.Prelude.{◌≡◌, length};
 ghost use Rattle.model.specs.Review.{review as modelReview};
-ghost use Rattle.model.specs.Entries.{listIn, suspectsIn, reviewEntry, wordsAfter};
-ghost use Rattle.review.specs.States.{phaseOf};
-ghost use Rattle.review.specs.Reviews.{Reviewable, reviewTold};
+ghost use Rattle.model.specs.Entries.{list_in, suspects_in, review_entry, words_after};
+ghost use Rattle.review.specs.States.{phase_of};
+ghost use Rattle.review.specs.Reviews.{Reviewable, review_told};
 
 use super::beginning::start;
 use super::{Phase, Reviewed, Taken, take_rule};
@@ -14,7 +14,7 @@ use suspects::Suspects;
 // for all ports. The suspects always have room here.
 pub fn review_list(book: &[u8], list: &[u32], count: usize, port: u32, suspects: Suspects) -> Phase
     requires { Reviewable book.now list.now count port suspects }
-    ensures { (x : Reviewable book.now list.now count port suspects) → phaseOf result ≡ modelReview port (suspectsIn x.inputs) (listIn x.inputs) }
+    ensures { (x : Reviewable book.now list.now count port suspects) → phase_of result ≡ modelReview port (suspects_in x.inputs) (list_in x.inputs) }
 {
     let mut low = suspects.low;
     let mut high = suspects.high;
@@ -38,8 +38,8 @@ pub fn review_list(book: &[u8], list: &[u32], count: usize, port: u32, suspects:
 
 // THE REVIEW: 1 to 10, then 11, 12, 13; and then certified, or refused with a rule and a source.
 pub fn review(book: &[u8], plan: &[u8], port: u32, words: &mut [u32]) -> Reviewed
-    ensures answer { reviewTold result ≡ reviewEntry book.now plan.now port (length words.old) }
-    ensures lent { words.new ≡ wordsAfter (reviewEntry book.now plan.now port (length words.old)) book.now words.old }
+    ensures answer { review_told result ≡ review_entry book.now plan.now port (length words.old) }
+    ensures lent { words.new ≡ words_after (review_entry book.now plan.now port (length words.old)) book.now words.old }
 {
     let started = start(book, plan, port, words);
     let answer = started.answer;

@@ -11,47 +11,47 @@ use Rattle.rules.specs.Rules.{Bounds}
 unfoldable pub word : ℕ → ℕ
 word x = when (leb x greatest) x greatest
 
-abbrev pub refusalWords : ℕ → ℕ → List ℕ
-refusalWords number place = number ∷ word place ∷ 0 ∷ 0 ∷ 0 ∷ 0 ∷ []
+abbrev pub refusal_words : ℕ → ℕ → List ℕ
+refusal_words number place = number ∷ word place ∷ 0 ∷ 0 ∷ 0 ∷ 0 ∷ []
 
-abbrev pub givenWords : ℕ → ℕ → ℕ → List ℕ
-givenWords a b c = 0 ∷ 0 ∷ a ∷ b ∷ c ∷ 0 ∷ []
+abbrev pub given_words : ℕ → ℕ → ℕ → List ℕ
+given_words a b c = 0 ∷ 0 ∷ a ∷ b ∷ c ∷ 0 ∷ []
 
 -- an answer, by the words of its value
-abbrev pub answerWords : {A : Type 0} → (A → List ℕ) → Answer A → List ℕ
-answerWords given (fine a) = given a
-answerWords given (refused n p) = refusalWords n p
+abbrev pub answer_words : {A : Type 0} → (A → List ℕ) → Answer A → List ℕ
+answer_words given (fine a) = given a
+answer_words given (refused n p) = refusal_words n p
 
 -- checking: chains and rules
-abbrev pub checkWords : Answer Size → List ℕ
-checkWords = answerWords (λ s. givenWords (word s.chains) (word s.rules) 0)
+abbrev pub check_words : Answer Size → List ℕ
+check_words = answer_words (λ s. given_words (word s.chains) (word s.rules) 0)
 
 -- a rule by number: where its bytes start, and where they end
-abbrev pub ruleWords : Answer Bounds → List ℕ
-ruleWords = answerWords (λ b. givenWords (word b.start) (word b.end) 0)
+abbrev pub rule_words : Answer Bounds → List ℕ
+rule_words = answer_words (λ b. given_words (word b.start) (word b.end) 0)
 
 -- unfolding: words and rules of the list
-abbrev pub countWords : Counts → List ℕ
-countWords c = givenWords (word c.words) (word c.rules) 0
+abbrev pub count_words : Counts → List ℕ
+count_words c = given_words (word c.words) (word c.rules) 0
 
-abbrev pub unfoldWords : Answer Counts → List ℕ
-unfoldWords = answerWords countWords
+abbrev pub unfold_words : Answer Counts → List ℕ
+unfold_words = answer_words count_words
 
 -- a packet: source, destination, protocol, destination port number, input port
-abbrev pub packetIn : List ℕ → Packet
-packetIn ws = record { source = get_or ws 0 0; destination = get_or ws 1 0; protocol = get_or ws 2 0; service = get_or ws 3 0; port = get_or ws 4 0 }
+abbrev pub packet_in : List ℕ → Packet
+packet_in ws = record { source = get_or ws 0 0; destination = get_or ws 1 0; protocol = get_or ws 2 0; service = get_or ws 3 0; port = get_or ws 4 0 }
 
 -- a verdict: 0 accept, 1 drop
-abbrev pub verdictWords : Answer ℕ → List ℕ
-verdictWords = answerWords (λ v. givenWords v 0 0)
+abbrev pub verdict_words : Answer ℕ → List ℕ
+verdict_words = answer_words (λ v. given_words v 0 0)
 
 -- which closure: 0 is the lower, every other number the upper
-abbrev pub closureOf : ℕ → ℕ → Bool
-closureOf number = when (eqb number 0) lower upper
+abbrev pub closure_of : ℕ → ℕ → Bool
+closure_of number = when (eqb number 0) lower upper
 
 -- the report: its bytes, or 19 with the bytes needed where the lent text is too short for them
-abbrev pub reportAnswer : List ℕ → ℕ → Answer ℕ
-reportAnswer text lent = when (leb (length text) lent) (fine (length text)) (refused 19 (length text))
+abbrev pub report_answer : List ℕ → ℕ → Answer ℕ
+report_answer text lent = when (leb (length text) lent) (fine (length text)) (refused 19 (length text))
 
-abbrev pub reportWords : Answer ℕ → List ℕ
-reportWords = answerWords (λ n. givenWords (word n) 0 0)
+abbrev pub report_words : Answer ℕ → List ℕ
+report_words = answer_words (λ n. given_words (word n) 0 0)

@@ -1,9 +1,9 @@
 // A book checked, a rule of it by number, and its list.
 ghost use Rattle.std.specs.Prelude.{◌≡◌, length};
-ghost use Rattle.model.specs.Entries.{checkEntry, unfoldEntry, wordsAfter};
+ghost use Rattle.model.specs.Entries.{check_entry, unfold_entry, words_after};
 ghost use Rattle.listing.specs.Listings.{told};
-ghost use Rattle.rules.specs.Rules.{told as ruleTold, ruleBounds};
-ghost use Rattle.reviewer.specs.Words.{checkWords, ruleWords, unfoldWords};
+ghost use Rattle.rules.specs.Rules.{told as rule_told, rule_bounds};
+ghost use Rattle.reviewer.specs.Words.{check_words, rule_words, unfold_words};
 
 use super::words::{given, refusal, word};
 use book::RuleNumber;
@@ -13,7 +13,7 @@ use rules::{RuleAnswer, rule_reading};
 
 // Unfolding's answer in words.
 fn counts(listed: Listed) -> [u32; 6]
-    ensures { result ≡ unfoldWords (told listed) }
+    ensures { result ≡ unfold_words (told listed) }
 {
     match listed {
         Listed::Refused(n, place) => refusal(n, place),
@@ -24,7 +24,7 @@ fn counts(listed: Listed) -> [u32; 6]
 // Checks a book: its chains and rules.
 #[unsafe(no_mangle)]
 pub extern "C" fn tannenlaut_check(book: &[u8], answer: &mut [u32; 6])
-    ensures { answer.new ≡ checkWords (checkEntry book.now) }
+    ensures { answer.new ≡ check_words (check_entry book.now) }
 {
     let checked = check(book);
     let reading = checked.reading;
@@ -41,7 +41,7 @@ pub extern "C" fn tannenlaut_check(book: &[u8], answer: &mut [u32; 6])
 
 // A rule's bounds in words.
 fn bounds(rule: RuleAnswer) -> [u32; 6]
-    ensures { result ≡ ruleWords (ruleTold rule) }
+    ensures { result ≡ rule_words (rule_told rule) }
 {
     match rule {
         RuleAnswer::Refused(n, place) => refusal(n, place),
@@ -52,7 +52,7 @@ fn bounds(rule: RuleAnswer) -> [u32; 6]
 // A rule by number: where its bytes start in the book, and where they end.
 #[unsafe(no_mangle)]
 pub extern "C" fn tannenlaut_rule(book: &[u8], rule: u32, answer: &mut [u32; 6])
-    ensures { answer.new ≡ ruleWords (ruleBounds book.now rule) }
+    ensures { answer.new ≡ rule_words (rule_bounds book.now rule) }
 {
     *answer = bounds(rule_reading(book, RuleNumber(rule)));
 }
@@ -60,8 +60,8 @@ pub extern "C" fn tannenlaut_rule(book: &[u8], rule: u32, answer: &mut [u32; 6])
 // Unfolds a book into words: the list's words and rules.
 #[unsafe(no_mangle)]
 pub extern "C" fn tannenlaut_unfold(book: &[u8], words: &mut [u32], answer: &mut [u32; 6])
-    ensures answer { answer.new ≡ unfoldWords (unfoldEntry book.now (length words.old)) }
-    ensures lent { words.new ≡ wordsAfter (unfoldEntry book.now (length words.old)) book.now words.old }
+    ensures answer { answer.new ≡ unfold_words (unfold_entry book.now (length words.old)) }
+    ensures lent { words.new ≡ words_after (unfold_entry book.now (length words.old)) book.now words.old }
 {
     let listed = unfold_book(book, words);
     *answer = counts(listed);

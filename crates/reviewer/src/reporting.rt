@@ -1,9 +1,9 @@
 // The report on a book and a plan.
 ghost use Rattle.std.specs.Prelude.{◌≡◌, length};
-ghost use Rattle.model.specs.Entries.{wordsAfter};
+ghost use Rattle.model.specs.Entries.{words_after};
 ghost use Rattle.model.specs.Report.{report as reportText};
-ghost use Rattle.report.specs.Reports.{reportEntry, textAfter};
-ghost use Rattle.reviewer.specs.Words.{reportAnswer, reportWords};
+ghost use Rattle.report.specs.Reports.{report_entry, text_after};
+ghost use Rattle.reviewer.specs.Words.{report_answer, report_words};
 
 use super::words::{given, refusal, word};
 use report::{Reported, report};
@@ -17,9 +17,9 @@ pub extern "C" fn tannenlaut_report(
     text: &mut [u8],
     answer: &mut [u32; 6],
 )
-    ensures answer { answer.new ≡ reportWords (reportAnswer (reportText book.now plan.now (length words.old)) (length text.old)) }
-    ensures text { text.new ≡ textAfter (reportText book.now plan.now (length words.old)) text.old }
-    ensures lent { words.new ≡ wordsAfter (reportEntry book.now plan.now (length words.old)) book.now words.old }
+    ensures answer { answer.new ≡ report_words (report_answer (reportText book.now plan.now (length words.old)) (length text.old)) }
+    ensures text { text.new ≡ text_after (reportText book.now plan.now (length words.old)) text.old }
+    ensures lent { words.new ≡ words_after (report_entry book.now plan.now (length words.old)) book.now words.old }
 {
     let reported = report(book, plan, words, text);
     match reported {

@@ -1,8 +1,8 @@
 // The review of one port, whole, and the start of one in slices.
 ghost use Rattle.std.specs.Prelude.{◌≡◌, length};
-ghost use Rattle.model.specs.Entries.{reviewEntry, startEntry, wordsAfter};
-ghost use Rattle.review.specs.Reviews.{reviewTold};
-ghost use Rattle.reviewer.specs.StateWords.{reviewWords, startWords, startState};
+ghost use Rattle.model.specs.Entries.{review_entry, start_entry, words_after};
+ghost use Rattle.review.specs.Reviews.{review_told};
+ghost use Rattle.reviewer.specs.StateWords.{review_words, start_words, start_state};
 
 use super::slices::state_out;
 use super::state::STATE;
@@ -14,7 +14,7 @@ use review::whole::review;
 
 // The review's answer in words.
 fn review_words(reviewed: Reviewed) -> [u32; 6]
-    ensures { result ≡ reviewWords (reviewTold reviewed) }
+    ensures { result ≡ review_words (review_told reviewed) }
 {
     match reviewed {
         Reviewed::Refusal(n, place) => refusal(n, place),
@@ -32,8 +32,8 @@ pub extern "C" fn tannenlaut_review(
     words: &mut [u32],
     answer: &mut [u32; 6],
 )
-    ensures answer { answer.new ≡ reviewWords (reviewEntry book.now plan.now port (length words.old)) }
-    ensures lent { words.new ≡ wordsAfter (reviewEntry book.now plan.now port (length words.old)) book.now words.old }
+    ensures answer { answer.new ≡ review_words (review_entry book.now plan.now port (length words.old)) }
+    ensures lent { words.new ≡ words_after (review_entry book.now plan.now port (length words.old)) book.now words.old }
 {
     *answer = review_words(review(book, plan, port, words));
 }
@@ -48,9 +48,9 @@ pub extern "C" fn tannenlaut_start(
     state: &mut [u32; STATE],
     answer: &mut [u32; 6],
 )
-    ensures answer { answer.new ≡ startWords (startEntry book.now plan.now port (length words.old)) }
-    ensures state { state.new ≡ startState (startEntry book.now plan.now port (length words.old)) state.old }
-    ensures lent { words.new ≡ wordsAfter (startEntry book.now plan.now port (length words.old)) book.now words.old }
+    ensures answer { answer.new ≡ start_words (start_entry book.now plan.now port (length words.old)) }
+    ensures state { state.new ≡ start_state (start_entry book.now plan.now port (length words.old)) state.old }
+    ensures lent { words.new ≡ words_after (start_entry book.now plan.now port (length words.old)) book.now words.old }
 {
     let started = start(book, plan, port, words);
     let listed = started.answer;

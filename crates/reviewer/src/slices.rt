@@ -1,7 +1,7 @@
 // The review in slices.
 ghost use Rattle.std.specs.Prelude.{◌≡◌};
-ghost use Rattle.review.specs.States.{phaseOf, state_of};
-ghost use Rattle.reviewer.specs.StateWords.{phaseWord, ruleWord, source_word, stateWords, stateIn, phaseIn, strayOver, stepOver, stepWords, stateWordsAfter};
+ghost use Rattle.review.specs.States.{phase_of, state_of};
+ghost use Rattle.reviewer.specs.StateWords.{phase_word, rule_word, source_word, state_words, state_in, phase_in, stray_over, step_over, step_words, state_words_after};
 
 use super::state::{HIGHS, LOWS, STATE, slots, state_words};
 use super::words::{given, refusal, word};
@@ -13,7 +13,7 @@ use suspects::Suspects;
 
 // The phase of a number that is one: 0 running, 1 certified, 2 refused.
 fn phase_in(number: u32, rule: u32, source: u32) -> Phase
-    ensures { phaseOf result ≡ phaseIn number rule source }
+    ensures { phase_of result ≡ phase_in number rule source }
 {
     if number == 0 {
         return Phase::Running;
@@ -26,7 +26,7 @@ fn phase_in(number: u32, rule: u32, source: u32) -> Phase
 
 // The state that words hold.
 fn state_in(words: [u32; STATE]) -> State
-    ensures { state_of result ≡ stateIn words }
+    ensures { state_of result ≡ state_in words }
 {
     let low = slots(words, LOWS);
     let high = slots(words, HIGHS);
@@ -45,7 +45,7 @@ fn state_in(words: [u32; STATE]) -> State
 }
 
 fn phase_number(phase: Phase) -> u32
-    ensures { result ≡ phaseWord (phaseOf phase) }
+    ensures { result ≡ phase_word (phase_of phase) }
 {
     match phase {
         Phase::Running => 0,
@@ -55,7 +55,7 @@ fn phase_number(phase: Phase) -> u32
 }
 
 fn phase_rule(phase: Phase) -> u32
-    ensures { result ≡ ruleWord (phaseOf phase) }
+    ensures { result ≡ rule_word (phase_of phase) }
 {
     match phase {
         Phase::Refused(rule, _) => rule.0,
@@ -65,7 +65,7 @@ fn phase_rule(phase: Phase) -> u32
 }
 
 fn phase_source(phase: Phase) -> u32
-    ensures { result ≡ source_word (phaseOf phase) }
+    ensures { result ≡ source_word (phase_of phase) }
 {
     match phase {
         Phase::Refused(_, source) => source,
@@ -76,7 +76,7 @@ fn phase_source(phase: Phase) -> u32
 
 // A state's words.
 pub fn state_out(state: State) -> [u32; STATE]
-    ensures { result ≡ stateWords (state_of state) }
+    ensures { result ≡ state_words (state_of state) }
 {
     let suspects = state.suspects;
     let phase = state.phase;
@@ -93,7 +93,7 @@ pub fn state_out(state: State) -> [u32; STATE]
 
 // A state whose phase is none is refused, after the book's own refusals.
 fn stray(book: &[u8], place: u32) -> [u32; 6]
-    ensures { result ≡ stepWords (strayOver book.now place) }
+    ensures { result ≡ step_words (stray_over book.now place) }
 {
     let checked = check(book);
     let reading = checked.reading;
@@ -111,8 +111,8 @@ pub extern "C" fn tannenlaut_step(
     state: &mut [u32; STATE],
     answer: &mut [u32; 6],
 )
-    ensures answer { answer.new ≡ stepWords (stepOver book.now list.now state.old) }
-    ensures state { state.new ≡ stateWordsAfter (stepOver book.now list.now state.old) state.old }
+    ensures answer { answer.new ≡ step_words (step_over book.now list.now state.old) }
+    ensures state { state.new ≡ state_words_after (step_over book.now list.now state.old) state.old }
 {
     let before = *state;
     let number = before[2];

@@ -1,8 +1,8 @@
 // The state of a review in slices, as the words that its caller holds: six, then the lows, then the highs.
 ghost use Rattle.std.specs.Prelude.{◌≡◌, ◌∷◌, ◌++◌, ◌+◌, ◌≤◌, length, take, drop};
-ghost use Rattle.model.specs.Limits.{spansMost};
+ghost use Rattle.model.specs.Limits.{spans_most};
 ghost use Rattle.model.specs.Filling.{put};
-ghost use Rattle.reviewer.specs.StateWords.{stateSize};
+ghost use Rattle.reviewer.specs.StateWords.{state_size};
 
 use suspects::Suspects;
 
@@ -15,8 +15,8 @@ pub const STATE: usize = HIGHS + Suspects::MAX;
 
 // So many of the words, from one on.
 pub fn slots(words: [u32; STATE], from: usize) -> [u32; Suspects::MAX]
-    requires { from + spansMost ≤ stateSize }
-    ensures { result ≡ take spansMost (drop from words) }
+    requires { from + spans_most ≤ state_size }
+    ensures { result ≡ take spans_most (drop from words) }
 {
     let mut out = [0u32; Suspects::MAX];
     let mut i: usize = 0;
@@ -29,7 +29,7 @@ pub fn slots(words: [u32; STATE], from: usize) -> [u32; Suspects::MAX]
 
 // The words with a part in place of what stood from one on.
 fn with_part(words: [u32; STATE], from: usize, part: &[u32]) -> [u32; STATE]
-    requires { from + length part.now ≤ stateSize }
+    requires { from + length part.now ≤ state_size }
     ensures { result ≡ put words from part.now }
 {
     let mut out = words;

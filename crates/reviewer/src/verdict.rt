@@ -1,16 +1,16 @@
 // The verdicts' answers in words.
 ghost use Rattle.std.specs.Prelude.{◌≡◌, length};
-ghost use Rattle.model.specs.Entries.{chainEntry, listEntry, closureEntry, wordsAfter};
-ghost use Rattle.walks.specs.Packets.{packetOf, tactic};
+ghost use Rattle.model.specs.Entries.{chain_entry, list_entry, closure_entry, words_after};
+ghost use Rattle.walks.specs.Packets.{packet_of, tactic};
 ghost use Rattle.verdicts.specs.Verdicts.{told};
-ghost use Rattle.reviewer.specs.Words.{packetIn, verdictWords, closureOf};
+ghost use Rattle.reviewer.specs.Words.{packet_in, verdict_words, closure_of};
 
 use super::words::{given, refusal};
 use verdicts::Verdict;
 use walks::Packet;
 
 fn verdict_words(v: Verdict) -> [u32; 6]
-    ensures { result ≡ verdictWords (told v) }
+    ensures { result ≡ verdict_words (told v) }
 {
     match v {
         Verdict::Refused(n, place) => refusal(n, place),
@@ -20,7 +20,7 @@ fn verdict_words(v: Verdict) -> [u32; 6]
 }
 
 fn packet_in(words: &[u32; 5]) -> Packet
-    ensures { packetOf result ≡ packetIn words.now }
+    ensures { packet_of result ≡ packet_in words.now }
 {
     Packet {
         source: words[0],
@@ -32,7 +32,7 @@ fn packet_in(words: &[u32; 5]) -> Packet
 }
 
 fn is_upper(number: u32) -> bool
-    ensures { tactic result ≡ closureOf number }
+    ensures { tactic result ≡ closure_of number }
 {
     if number == 0 {
         return false;
@@ -48,7 +48,7 @@ pub extern "C" fn tannenlaut_chain_verdict(
     packet: &[u32; 5],
     answer: &mut [u32; 6],
 )
-    ensures { answer.new ≡ verdictWords (chainEntry book.now answers.now (packetIn packet.now)) }
+    ensures { answer.new ≡ verdict_words (chain_entry book.now answers.now (packet_in packet.now)) }
 {
     let p = packet_in(packet);
     *answer = verdict_words(verdicts::chain_verdict(book, answers, p));
@@ -63,8 +63,8 @@ pub extern "C" fn tannenlaut_list_verdict(
     words: &mut [u32],
     answer: &mut [u32; 6],
 )
-    ensures answer { answer.new ≡ verdictWords (listEntry book.now answers.now (packetIn packet.now) (length words.old)) }
-    ensures lent { words.new ≡ wordsAfter (listEntry book.now answers.now (packetIn packet.now) (length words.old)) book.now words.old }
+    ensures answer { answer.new ≡ verdict_words (list_entry book.now answers.now (packet_in packet.now) (length words.old)) }
+    ensures lent { words.new ≡ words_after (list_entry book.now answers.now (packet_in packet.now) (length words.old)) book.now words.old }
 {
     let p = packet_in(packet);
     *answer = verdict_words(verdicts::list_verdict(book, answers, p, words));
@@ -79,8 +79,8 @@ pub extern "C" fn tannenlaut_closure(
     words: &mut [u32],
     answer: &mut [u32; 6],
 )
-    ensures answer { answer.new ≡ verdictWords (closureEntry (closureOf upper) book.now (packetIn packet.now) (length words.old)) }
-    ensures lent { words.new ≡ wordsAfter (closureEntry (closureOf upper) book.now (packetIn packet.now) (length words.old)) book.now words.old }
+    ensures answer { answer.new ≡ verdict_words (closure_entry (closure_of upper) book.now (packet_in packet.now) (length words.old)) }
+    ensures lent { words.new ≡ words_after (closure_entry (closure_of upper) book.now (packet_in packet.now) (length words.old)) book.now words.old }
 {
     let p = packet_in(packet);
     let which = is_upper(upper);

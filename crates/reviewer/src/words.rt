@@ -1,6 +1,6 @@
 // The six words of an answer.
 ghost use Rattle.std.specs.Prelude.{◌≡◌};
-ghost use Rattle.reviewer.specs.Words.{word, refusalWords, givenWords};
+ghost use Rattle.reviewer.specs.Words.{word, refusal_words, given_words};
 
 const GREATEST: usize = 4294967295;
 
@@ -15,14 +15,14 @@ pub fn word(x: usize) -> u32
 }
 
 pub fn refusal(number: u32, place: usize) -> [u32; 6]
-    ensures { result ≡ refusalWords number place }
+    ensures { result ≡ refusal_words number place }
 {
     let at = word(place);
     [number, at, 0, 0, 0, 0]
 }
 
 pub fn given(a: u32, b: u32, c: u32) -> [u32; 6]
-    ensures { result ≡ givenWords a b c }
+    ensures { result ≡ given_words a b c }
 {
     [0, 0, a, b, c, 0]
 }

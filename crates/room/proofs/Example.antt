@@ -8,13 +8,13 @@ use Rattle.model.specs.Tree.{Book}
 use Rattle.model.specs.Tree.Action.{accept, return, call}
 use Rattle.model.specs.Tree.Expr.{always, leaf}
 use Rattle.model.specs.Tree.Leaf.{source}
-use Rattle.model.specs.Calls.{lowestLoop, weight}
+use Rattle.model.specs.Calls.{lowest_loop, weight}
 use Rattle.model.specs.Unfolding.{list_of, words_of}
-use Rattle.model.proofs.LoopsExact.{lowest-none}
+use Rattle.model.proofs.LoopsExact.{lowest_none}
 use Rattle.book.specs.Contents.{Charted}
 use Rattle.calls.specs.Checked.{Passes}
-use Rattle.calls.specs.Weights.{rankIn, Ranked}
-use Rattle.room.specs.Counting.{chainNeed, need_of}
+use Rattle.calls.specs.Weights.{rank_in, Ranked}
+use Rattle.room.specs.Counting.{chain_need, need_of}
 
 book : Book
 book = record {
@@ -47,11 +47,11 @@ below_two P a b zero h = a
 below_two P a b (suc zero) h = b
 below_two P a b (suc (suc n)) h = absurd (omega arith)
 
-below-three : (P : ℕ → Type 0) → P 0 → P 1 → P 2 → (c : ℕ) → c < 3 → P c
-below-three P a b c zero h = a
-below-three P a b c (suc zero) h = b
-below-three P a b c (suc (suc zero)) h = c
-below-three P a b c (suc (suc (suc n))) h = absurd (omega arith)
+below_three : (P : ℕ → Type 0) → P 0 → P 1 → P 2 → (c : ℕ) → c < 3 → P c
+below_three P a b c zero h = a
+below_three P a b c (suc zero) h = b
+below_three P a b c (suc (suc zero)) h = c
+below_three P a b c (suc (suc (suc n))) h = absurd (omega arith)
 
 charted : Charted book first action target expression 2 3
 unfolding book first action target expression
@@ -62,7 +62,7 @@ charted = record {
     room = omega arith;
     rising = below_two (λ c. get_or first c 0 ≤ get_or first (c + 1) 0) (omega arith) (omega arith);
     inside = below_two (λ c. get_or first (c + 1) 0 ≤ 3) (omega arith) (omega arith);
-    known = below-three (λ i. get_or action i 0 ≡ 6 → get_or target i 0 < 2) (λ q. omega arith) (λ q. omega arith) (λ q. omega arith);
+    known = below_three (λ i. get_or action i 0 ≡ 6 → get_or target i 0 < 2) (λ q. omega arith) (λ q. omega arith) (λ q. omega arith);
   };
   count = refl;
   total = refl;
@@ -72,24 +72,24 @@ charted = record {
       (record { number = refl; act = refl; match = refl }, tt);
 }
 
-ranked : Ranked first action target 2 (rankIn ranks)
+ranked : Ranked first action target 2 (rank_in ranks)
 unfolding first action target ranks
 ranked = record {
-  falls = λ c i lt. below_two (λ c. get_or first c 0 ≤ i → i < get_or first (c + 1) 0 → get_or action i 0 ≡ 6 → rankIn ranks (get_or target i 0) < rankIn ranks c)
-      (λ a l. below_two (λ i. get_or action i 0 ≡ 6 → rankIn ranks (get_or target i 0) < 1) (λ q. absurd (omega arith)) (λ q. omega arith) i l)
-      (λ a l. below-three (λ i. 2 ≤ i → get_or action i 0 ≡ 6 → rankIn ranks (get_or target i 0) < 0) (λ g q. absurd (omega arith)) (λ g q. absurd (omega arith)) (λ g q. absurd (omega arith)) i l a)
+  falls = λ c i lt. below_two (λ c. get_or first c 0 ≤ i → i < get_or first (c + 1) 0 → get_or action i 0 ≡ 6 → rank_in ranks (get_or target i 0) < rank_in ranks c)
+      (λ a l. below_two (λ i. get_or action i 0 ≡ 6 → rank_in ranks (get_or target i 0) < 1) (λ q. absurd (omega arith)) (λ q. omega arith) i l)
+      (λ a l. below_three (λ i. 2 ≤ i → get_or action i 0 ≡ 6 → rank_in ranks (get_or target i 0) < 0) (λ g q. absurd (omega arith)) (λ g q. absurd (omega arith)) (λ g q. absurd (omega arith)) i l a)
       c lt;
-  below = below_two (λ c. rankIn ranks c < 2) (omega arith) (omega arith);
+  below = below_two (λ c. rank_in ranks c < 2) (omega arith) (omega arith);
 }
 
 passes : Passes book
-unfolding book weight lowestLoop
-passes = record { free = (lowest-none book).0 refl; light = omega arith }
+unfolding book weight lowest_loop
+passes = record { free = (lowest_none book).0 refl; light = omega arith }
 
-counted-so : chainNeed 2 book 0 ≡ record { rules = 1; words = 6 }
-unfolding book chainNeed
-counted-so = refl
+counted_so : chain_need 2 book 0 ≡ record { rules = 1; words = 6 }
+unfolding book chain_need
+counted_so = refl
 
-listed-so : need_of book ≡ record { rules = 2; words = 9 }
+listed_so : need_of book ≡ record { rules = 2; words = 9 }
 unfolding book list_of words_of
-listed-so = refl
+listed_so = refl

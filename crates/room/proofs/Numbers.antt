@@ -3,16 +3,16 @@ use Prim.Native.Nat.{ℕ, zero, suc, ◌+◌, ◌<◌}
 use native.Mathlib.Omega.{arith}
 use mathlib.Core.Path.{◌≡◌, refl}
 use mathlib.Core.Logic.{◌≢◌}
-use Rattle.book.specs.Contents.{actionOf}
+use Rattle.book.specs.Contents.{action_of}
 use Rattle.room.specs.declared.Need.{Need}
-use Rattle.room.specs.Counting.{one, nothing, put, heldAfter}
+use Rattle.room.specs.Counting.{one, nothing, put, held_after}
 use Rattle.room.specs.Capped.{least, Small}
 
-one-small : Small one
-one-small = record { rules = omega arith; words = omega arith }
+one_small : Small one
+one_small = record { rules = omega arith; words = omega arith }
 
-none-small : Small nothing
-none-small = record { rules = omega arith; words = omega arith }
+none_small : Small nothing
+none_small = record { rules = omega arith; words = omega arith }
 
 module _ (t : ℕ) where
   -- by cases: the seven actions, and what is none of them
@@ -27,37 +27,37 @@ module _ (t : ℕ) where
   by_number P p0 p1 p2 p3 p4 p5 p6 p (suc (suc (suc (suc (suc (suc (suc n))))))) = p n
 
   module _ (g : ℕ → Need) where
-    pub put-call : (a : ℕ) → a ≡ 6 → put g (actionOf a t) ≡ g t
-    put-call a e = rw e
+    pub put_call : (a : ℕ) → a ≡ 6 → put g (action_of a t) ≡ g t
+    put_call a e = rw e
 
-    pub put-none : (a : ℕ) → 2 < a → a < 6 → put g (actionOf a t) ≡ nothing
-    put-none = by_number (λ a. 2 < a → a < 6 → put g (actionOf a t) ≡ nothing)
+    pub put_none : (a : ℕ) → 2 < a → a < 6 → put g (action_of a t) ≡ nothing
+    put_none = by_number (λ a. 2 < a → a < 6 → put g (action_of a t) ≡ nothing)
         (λ h k. absurd (omega arith)) (λ h k. absurd (omega arith)) (λ h k. absurd (omega arith))
         (λ h k. refl) (λ h k. refl) (λ h k. refl)
         (λ h k. absurd (omega arith)) (λ n h k. absurd (omega arith))
 
-    pub put_one : (a : ℕ) → a ≢ 6 → (2 < a → a < 6 → ⊥) → put g (actionOf a t) ≡ one
-    put_one = by_number (λ a. a ≢ 6 → (2 < a → a < 6 → ⊥) → put g (actionOf a t) ≡ one)
+    pub put_one : (a : ℕ) → a ≢ 6 → (2 < a → a < 6 → ⊥) → put g (action_of a t) ≡ one
+    put_one = by_number (λ a. a ≢ 6 → (2 < a → a < 6 → ⊥) → put g (action_of a t) ≡ one)
         (λ h k. refl) (λ h k. refl) (λ h k. refl)
         (λ h k. absurd (k (omega arith) (omega arith))) (λ h k. absurd (k (omega arith) (omega arith))) (λ h k. absurd (k (omega arith) (omega arith)))
         (λ h k. absurd (h refl)) (λ n h k. refl)
 
     -- where the called chain's need is capped, so is what the rule puts
-    pub put-least : (f : ℕ → Need) (a : ℕ) → (a ≡ 6 → g t ≡ least (f t)) → put g (actionOf a t) ≡ least (put f (actionOf a t))
-    put-least f = by_number (λ a. (a ≡ 6 → g t ≡ least (f t)) → put g (actionOf a t) ≡ least (put f (actionOf a t)))
+    pub put_least : (f : ℕ → Need) (a : ℕ) → (a ≡ 6 → g t ≡ least (f t)) → put g (action_of a t) ≡ least (put f (action_of a t))
+    put_least f = by_number (λ a. (a ≡ 6 → g t ≡ least (f t)) → put g (action_of a t) ≡ least (put f (action_of a t)))
         (λ h. refl) (λ h. refl) (λ h. refl) (λ h. refl) (λ h. refl) (λ h. refl) (λ h. h refl) (λ n h. refl)
 
-    small_by : (a : ℕ) → (a ≡ 6 → Small (g t)) → Small (put g (actionOf a t))
-    small_by = by_number (λ a. (a ≡ 6 → Small (g t)) → Small (put g (actionOf a t)))
-        (λ h. one-small) (λ h. one-small) (λ h. one-small) (λ h. none-small) (λ h. none-small) (λ h. none-small) (λ h. h refl) (λ n h. one-small)
+    small_by : (a : ℕ) → (a ≡ 6 → Small (g t)) → Small (put g (action_of a t))
+    small_by = by_number (λ a. (a ≡ 6 → Small (g t)) → Small (put g (action_of a t)))
+        (λ h. one_small) (λ h. one_small) (λ h. one_small) (λ h. none_small) (λ h. none_small) (λ h. none_small) (λ h. h refl) (λ n h. one_small)
 
-    pub put_small : (a : ℕ) (own : Need) → own ≡ put g (actionOf a t) → (a ≡ 6 → Small (g t)) → Small own
+    pub put_small : (a : ℕ) (own : Need) → own ≡ put g (action_of a t) → (a ≡ 6 → Small (g t)) → Small own
     put_small a own e h = rw e (small_by a h)
 
   module _ (held : ℕ) where
-    pub held-return : (a : ℕ) → a ≡ 5 → held + 1 ≡ heldAfter held (actionOf a t)
-    held-return a e = rw e (omega arith)
+    pub held_return : (a : ℕ) → a ≡ 5 → held + 1 ≡ held_after held (action_of a t)
+    held_return a e = rw e (omega arith)
 
-    pub held-other : (a : ℕ) → a ≢ 5 → held ≡ heldAfter held (actionOf a t)
-    held-other = by_number (λ a. a ≢ 5 → held ≡ heldAfter held (actionOf a t))
+    pub held_other : (a : ℕ) → a ≢ 5 → held ≡ held_after held (action_of a t)
+    held_other = by_number (λ a. a ≢ 5 → held ≡ held_after held (action_of a t))
         (λ h. refl) (λ h. refl) (λ h. refl) (λ h. refl) (λ h. refl) (λ h. absurd (h refl)) (λ h. refl) (λ n h. refl)

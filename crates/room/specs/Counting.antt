@@ -1,6 +1,6 @@
 -- How many rules and words a chain puts into the unfolded list, without unfolding it. Under k conditions more it puts in as many rules, and k words more for each.
 use Rattle.std.specs.Prelude.{ℕ, zero, suc, ◌+◌, ◌*◌, List, [], ◌∷◌, map, length}
-use Rattle.model.specs.Calls.{chainOf}
+use Rattle.model.specs.Calls.{chain_of}
 use Rattle.model.specs.Tree.{Rule, Book, Action}
 use Rattle.model.specs.Tree.Action.{accept, drop, reject, log, empty, return, call}
 use Rattle.model.specs.Unfolding.{list_of, words_of}
@@ -24,31 +24,31 @@ put f return = nothing
 put f (call c) = f c
 
 -- the conditions that the next rule has of its own chain
-abbrev pub heldAfter : ℕ → Action → ℕ
-heldAfter held accept = held
-heldAfter held drop = held
-heldAfter held reject = held
-heldAfter held log = held
-heldAfter held empty = held
-heldAfter held return = suc held
-heldAfter held (call c) = held
+abbrev pub held_after : ℕ → Action → ℕ
+held_after held accept = held
+held_after held drop = held
+held_after held reject = held
+held_after held log = held
+held_after held empty = held
+held_after held return = suc held
+held_after held (call c) = held
 
 -- rules of a chain of which the first has so many conditions of the chain: the returns before it, and its own match
 unfoldable pub counted : (ℕ → Need) → ℕ → List Action → Need
 counted f held [] = nothing
 counted f held (a ∷ rest) = record {
-  rules = (put f a).rules + (counted f (heldAfter held a) rest).rules;
-  words = (put f a).words + held * (put f a).rules + (counted f (heldAfter held a) rest).words;
+  rules = (put f a).rules + (counted f (held_after held a) rest).rules;
+  words = (put f a).words + held * (put f a).rules + (counted f (held_after held a) rest).words;
 }
 
-abbrev pub actionsOf : List Rule → List Action
-actionsOf rs = map (λ (r : Rule). r.action) rs
+abbrev pub actions_of : List Rule → List Action
+actions_of rs = map (λ (r : Rule). r.action) rs
 
 -- chain c, where calls nest at most n deep
-unfoldable pub chainNeed : ℕ → Book → ℕ → Need
+unfoldable pub chain_need : ℕ → Book → ℕ → Need
 unfolding counted
-chainNeed zero b c = nothing
-chainNeed (suc n) b c = counted (chainNeed n b) 1 (actionsOf (chainOf b c))
+chain_need zero b c = nothing
+chain_need (suc n) b c = counted (chain_need n b) 1 (actions_of (chain_of b c))
 
 -- what the whole list needs
 abbrev pub need_of : Book → Need

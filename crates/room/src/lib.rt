@@ -1,14 +1,14 @@
 // How many rules and words the unfolded list needs, without unfolding: over a read book's contents, each chain counted once.
 ghost use Rattle.std.specs.Prelude.{◌≡◌, ℕ, ◌+◌, ◌<◌, ◌≤◌, List, get_or};
-ghost use Rattle.model.specs.Limits.{chainsMost};
+ghost use Rattle.model.specs.Limits.{chains_most};
 ghost use Rattle.model.specs.Tree.{Book};
-ghost use Rattle.book.specs.Contents.{Shape, Charted, actionOf, rulesIn};
-ghost use Rattle.calls.specs.Actions.{actionsAt};
-ghost use Rattle.calls.specs.Weights.{rankIn, Ranked};
+ghost use Rattle.book.specs.Contents.{Shape, Charted, action_of, rules_in};
+ghost use Rattle.calls.specs.Actions.{actions_at};
+ghost use Rattle.calls.specs.Weights.{rank_in, Ranked};
 ghost use Rattle.calls.specs.Checked.{Passes};
 ghost use Rattle.room.specs.declared.Need.{Need};
 ghost use Rattle.room.specs.Counting.{put, counted, need_of};
-ghost use Rattle.room.specs.Capped.{needMost, capped, least, Small, Kept, kept, Known, Counting, Upto};
+ghost use Rattle.room.specs.Capped.{need_most, capped, least, Small, Kept, kept, Known, Counting, Upto};
 
 use book::{CHAINS, RULES, STARTS};
 
@@ -52,8 +52,8 @@ fn put_by<'a>(
     counts: &'a [usize; CHAINS],
     words: &'a [usize; CHAINS],
 ) -> Need
-    requires { action ≡ 6 → target < chainsMost }
-    ensures { result ≡ put (kept counts.now words.now) (actionOf action target) }
+    requires { action ≡ 6 → target < chains_most }
+    ensures { result ≡ put (kept counts.now words.now) (action_of action target) }
 {
     if action == CALL {
         let called = target as usize;
@@ -85,7 +85,7 @@ fn count_chain<'a>(
     words: &'a [usize; CHAINS],
 ) -> Need
     requires { Shape first.now action.now target.now chains rules × (c < chains) × Kept counts.now words.now }
-    ensures { Small result × ((f : ℕ → Need) → Known first.now action.now target.now f (kept counts.now words.now) c → result ≡ least (counted f 1 (actionsAt action.now target.now (get_or first.now c 0) (rulesIn first.now c)))) }
+    ensures { Small result × ((f : ℕ → Need) → Known first.now action.now target.now f (kept counts.now words.now) c → result ≡ least (counted f 1 (actions_at action.now target.now (get_or first.now c 0) (rules_in first.now c)))) }
 {
     let end = first[c + 1] as usize;
     let mut i = first[c] as usize;
@@ -124,7 +124,7 @@ fn count_rank<'a>(
     words: &mut [usize; CHAINS],
 )
     requires { Shape first.now action.now target.now chains rules × Kept counts.old words.old }
-    ensures { Kept counts.new words.new × ((f : ℕ → Need) → Counting first.now action.now target.now chains (rankIn ranks.now) f → Upto chains (rankIn ranks.now) f level (kept counts.old words.old) → Upto chains (rankIn ranks.now) f (level + 1) (kept counts.new words.new)) }
+    ensures { Kept counts.new words.new × ((f : ℕ → Need) → Counting first.now action.now target.now chains (rank_in ranks.now) f → Upto chains (rank_in ranks.now) f level (kept counts.old words.old) → Upto chains (rank_in ranks.now) f (level + 1) (kept counts.new words.new)) }
 {
     let mut c: usize = 0;
     while c < chains {
@@ -147,7 +147,7 @@ pub fn room<'a>(
     rules: usize,
 ) -> Need
     requires { Shape first.now action.now target.now chains rules }
-    ensures { (result.rules ≤ needMost + 1) × (result.words ≤ needMost + 3) × ((b : Book) (expression : List ℕ) → Charted b first.now action.now target.now expression chains rules → Ranked first.now action.now target.now chains (rankIn ranks.now) → Passes b → result ≡ need_of b) }
+    ensures { (result.rules ≤ need_most + 1) × (result.words ≤ need_most + 3) × ((b : Book) (expression : List ℕ) → Charted b first.now action.now target.now expression chains rules → Ranked first.now action.now target.now chains (rank_in ranks.now) → Passes b → result ≡ need_of b) }
 {
     let mut counts = [0usize; CHAINS];
     let mut words = [0usize; CHAINS];

@@ -4,94 +4,94 @@ use native.Mathlib.Omega.{arith}
 use mathlib.Core.List.{List, []}
 use mathlib.Core.Path.{◌≡◌, refl, sym, ◌∙◌, ap, subst}
 use lib.ListN.{length, get_or, take, drop}
-use Rattle.model.specs.Limits.{rulesMost}
+use Rattle.model.specs.Limits.{rules_most}
 use Rattle.model.specs.Answer.{Answer, fine, refused, ◌>>=◌}
-use Rattle.model.specs.Tree.{Rule, Book, rulesOf}
+use Rattle.model.specs.Tree.{Rule, Book, rules_of}
 use Rattle.model.specs.Calls.{readable}
-use Rattle.model.specs.Entries.{ruleOf, ruleEntry, part_of}
+use Rattle.model.specs.Entries.{rule_of, rule_entry, part_of}
 use Rattle.model.specs.Standing.{RuleWritten}
-use Rattle.model.proofs.Success.{behind, fine-same}
-use Rattle.model.proofs.Placed.{readable-read}
-use Rattle.model.proofs.RuleOwn.{rule-own}
-use Rattle.model.proofs.BookKnown.{KnownBook, numbered-found, numbered-none, book-known}
-use Rattle.book.specs.Contents.{contentsOf}
-use Rattle.book.specs.Own.{noRule}
+use Rattle.model.proofs.Success.{behind, fine_same}
+use Rattle.model.proofs.Placed.{readable_read}
+use Rattle.model.proofs.RuleOwn.{rule_own}
+use Rattle.model.proofs.BookKnown.{KnownBook, numbered_found, numbered_none, book_known}
+use Rattle.book.specs.Contents.{contents_of}
+use Rattle.book.specs.Own.{no_rule}
 use Rattle.book.specs.declared.Contents.{Contents}
-use Rattle.book.proofs.Charts.{contents-owned}
-use Rattle.rules.specs.Rules.{Bounds, told, boundsIn, ruleBounds, bytesIn}
+use Rattle.book.proofs.Charts.{contents_owned}
+use Rattle.rules.specs.Rules.{Bounds, told, bounds_in, rule_bounds, bytes_in}
 use Rattle.rules.specs.declared.RuleAnswer.{RuleAnswer}
 use Rattle.rules.specs.declared.RuleAnswer.TheVariants.{At, Refused}
 
-module _ (s : List ℕ) (b : Book) (e : readable s ≡ fine b) (c : Contents) (q : c ≡ contentsOf b) where
+module _ (s : List ℕ) (b : Book) (e : readable s ≡ fine b) (c : Contents) (q : c ≡ contents_of b) where
   known : KnownBook s b
-  known = let r = readable-read s b e in book-known s b r.0 r.1
+  known = let r = readable_read s b e in book_known s b r.0 r.1
 
-  total : c.rules ≡ length (rulesOf b)
-  unfolding contentsOf
+  total : c.rules ≡ length (rules_of b)
+  unfolding contents_of
   total = ap (λ c. c.rules) q ∙ known.total
 
-  pub few : c.rules ≤ rulesMost
-  unfolding contentsOf
-  few = subst (λ n. n ≤ rulesMost) (sym (ap (λ c. c.rules) q)) known.room
+  pub few : c.rules ≤ rules_most
+  unfolding contents_of
+  few = subst (λ n. n ≤ rules_most) (sym (ap (λ c. c.rules) q)) known.room
 
   -- by the contents
-  pub bounds-none : (number : ℕ) → c.rules ≤ number → refused 17 number ≡ boundsIn b number
-  bounds-none number le = rw (numbered-none number 0 (rulesOf b) known.numbered (omega (arith, total)))
+  pub bounds_none : (number : ℕ) → c.rules ≤ number → refused 17 number ≡ bounds_in b number
+  bounds_none number le = rw (numbered_none number 0 (rules_of b) known.numbered (omega (arith, total)))
 
-  pub bounds-at : (number : ℕ) → number < c.rules → told (At (get_or c.place number 0) (get_or c.end number 0)) ≡ boundsIn b number
-  bounds-at number lt =
-      let r = readable-read s b e in
-      let o = contents-owned s b r.0 r.1 number (subst (λ c. number < c.rules) q lt) in
-      let f = numbered-found noRule number 0 number (rulesOf b) known.numbered (omega arith) (omega (arith, total)) in
+  pub bounds_at : (number : ℕ) → number < c.rules → told (At (get_or c.place number 0) (get_or c.end number 0)) ≡ bounds_in b number
+  bounds_at number lt =
+      let r = readable_read s b e in
+      let o = contents_owned s b r.0 r.1 number (subst (λ c. number < c.rules) q lt) in
+      let f = numbered_found no_rule number 0 number (rules_of b) known.numbered (omega arith) (omega (arith, total)) in
       rw (q, f, o.starts, o.ends)
 
 -- what the entries answer of a book that is refused, and of one that is not
 module _ (s : List ℕ) (number : ℕ) where
-  bytes-through : (m : Answer Book) → bytesIn s (◌>>=◌ m (λ b. boundsIn b number)) ≡ ◌>>=◌ m (λ b. ◌>>=◌ (ruleOf number (rulesOf b)) (λ r. fine (take (r.next - r.place) (drop r.place s))))
-  bytes-through (refused n p) = refl
-  bytes-through (fine b) = go (ruleOf number (rulesOf b))
+  bytes_through : (m : Answer Book) → bytes_in s (◌>>=◌ m (λ b. bounds_in b number)) ≡ ◌>>=◌ m (λ b. ◌>>=◌ (rule_of number (rules_of b)) (λ r. fine (take (r.next - r.place) (drop r.place s))))
+  bytes_through (refused n p) = refl
+  bytes_through (fine b) = go (rule_of number (rules_of b))
     where
-      go : (m : Answer Rule) → bytesIn s (◌>>=◌ m (λ r. fine (record { start = r.place; end = r.next }))) ≡ ◌>>=◌ m (λ r. fine (take (r.next - r.place) (drop r.place s)))
+      go : (m : Answer Rule) → bytes_in s (◌>>=◌ m (λ r. fine (record { start = r.place; end = r.next }))) ≡ ◌>>=◌ m (λ r. fine (take (r.next - r.place) (drop r.place s)))
       go (fine r) = refl
       go (refused n p) = refl
 
   -- the bytes between the bounds are the rule's own
-  pub bytes-own : bytesIn s (ruleBounds s number) ≡ ruleEntry s number
-  unfolding ruleBounds ruleEntry
-  bytes-own = bytes-through (readable s)
+  pub bytes_own : bytes_in s (rule_bounds s number) ≡ rule_entry s number
+  unfolding rule_bounds rule_entry
+  bytes_own = bytes_through (readable s)
 
   -- so that an answer that says where the rule stands says its bytes too
-  pub both_say : (r : RuleAnswer) → told r ≡ ruleBounds s number → (told r ≡ ruleBounds s number) × (bytesIn s (told r) ≡ ruleEntry s number)
-  both_say r e = (e, ap (bytesIn s) e ∙ bytes-own)
+  pub both_say : (r : RuleAnswer) → told r ≡ rule_bounds s number → (told r ≡ rule_bounds s number) × (bytes_in s (told r) ≡ rule_entry s number)
+  both_say r e = (e, ap (bytes_in s) e ∙ bytes_own)
 
-  pub book-refused : (n p : ℕ) → readable s ≡ refused n p → refused n p ≡ ruleBounds s number
-  unfolding ruleBounds
-  book-refused n p e = rw e
+  pub book_refused : (n p : ℕ) → readable s ≡ refused n p → refused n p ≡ rule_bounds s number
+  unfolding rule_bounds
+  book_refused n p e = rw e
 
-  pub book-fine : (b : Book) → readable s ≡ fine b → boundsIn b number ≡ ruleBounds s number
-  unfolding ruleBounds
-  book-fine b e = rw e
+  pub book_fine : (b : Book) → readable s ≡ fine b → bounds_in b number ≡ rule_bounds s number
+  unfolding rule_bounds
+  book_fine b e = rw e
 
   -- THE PART THAT IS HANDED BACK
-  module _ (x : RuleAnswer) (says : bytesIn s (told x) ≡ ruleEntry s number) where
-    pub part_none : (n p : ℕ) → x ≡ Refused n p → [] ≡ part_of (ruleEntry s number)
-    part_none n p is = ap (λ x. part_of (bytesIn s (told x))) (sym is) ∙ ap (λ a. part_of a) says
+  module _ (x : RuleAnswer) (says : bytes_in s (told x) ≡ rule_entry s number) where
+    pub part_none : (n p : ℕ) → x ≡ Refused n p → [] ≡ part_of (rule_entry s number)
+    part_none n p is = ap (λ x. part_of (bytes_in s (told x))) (sym is) ∙ ap (λ a. part_of a) says
 
     module _ (start end : ℕ) (is : x ≡ At start end) where
-      pub part_at : take (end - start) (drop start s) ≡ part_of (ruleEntry s number)
-      part_at = ap (λ x. part_of (bytesIn s (told x))) (sym is) ∙ ap (λ a. part_of a) says
+      pub part_at : take (end - start) (drop start s) ≡ part_of (rule_entry s number)
+      part_at = ap (λ x. part_of (bytes_in s (told x))) (sym is) ∙ ap (λ a. part_of a) says
 
       -- it lies in the book
-      pub part-inside : told x ≡ ruleBounds s number → (start ≤ end) × (end ≤ length s)
-      unfolding ruleBounds
-      part-inside stands =
+      pub part_inside : told x ≡ rule_bounds s number → (start ≤ end) × (end ≤ length s)
+      unfolding rule_bounds
+      part_inside stands =
           let a : Bounds = record { start = start; end = end } in
           let b = behind (readable s) _ a (sym stands ∙ ap told is) in
-          let r = behind (ruleOf number (rulesOf b.0)) _ a b.2 in
-          let o = rule-own s number (take (end - start) (drop start s)) (sym says ∙ ap (λ x. bytesIn s (told x)) is) in
-          let same-book : o.0 ≡ b.0 = fine-same (sym o.2 ∙ b.1) in
-          let same-rule : o.1 ≡ r.0 = fine-same (sym o.3 ∙ ap (λ b. ruleOf number (rulesOf b)) same-book ∙ r.1) in
+          let r = behind (rule_of number (rules_of b.0)) _ a b.2 in
+          let o = rule_own s number (take (end - start) (drop start s)) (sym says ∙ ap (λ x. bytes_in s (told x)) is) in
+          let same-book : o.0 ≡ b.0 = fine_same (sym o.2 ∙ b.1) in
+          let same-rule : o.1 ≡ r.0 = fine_same (sym o.3 ∙ ap (λ b. rule_of number (rules_of b)) same-book ∙ r.1) in
           let w : RuleWritten s r.0 = subst (RuleWritten s) same-rule o.5 in
-          let starts : r.0.place ≡ start = ap (λ (a : Bounds). a.start) (fine-same r.2) in
-          let ends : r.0.next ≡ end = ap (λ (a : Bounds). a.end) (fine-same r.2) in
+          let starts : r.0.place ≡ start = ap (λ (a : Bounds). a.start) (fine_same r.2) in
+          let ends : r.0.next ≡ end = ap (λ (a : Bounds). a.end) (fine_same r.2) in
           (omega (arith, w.some, starts, ends), omega (arith, w.inside, ends))

@@ -10,8 +10,8 @@ use lib.ListN.{length, get_or, set}
 use Rattle.model.specs.Spans.{Span, Spans, one}
 use Rattle.suspects.specs.Slots.{Slots}
 use Rattle.suspects.specs.Build.{Chain, Holds, Held, Grown, NoRoom, Filled}
-use Rattle.suspects.proofs.Chains.{span, chain_more, chain_snoc, chain-front, grow-new, grow_last, longer}
-use Rattle.suspects.proofs.Columns.{slots-new, slots-last, last-high}
+use Rattle.suspects.proofs.Chains.{span, chain_more, chain_snoc, chain_front, grow_new, grow_last, longer}
+use Rattle.suspects.proofs.Columns.{slots_new, slots_last, last_high}
 
 -- a list that is not empty, as its last and those before
 record Last (ss : Spans) : Type 0 where
@@ -25,24 +25,24 @@ last_of (s ∷ []) h = record { front = []; last = s; is = refl }
 last_of (s ∷ t ∷ ss) h = let l = last_of (t ∷ ss) (omega arith) in record { front = s ∷ l.front; last = l.last; is = ap (λ r. s ∷ r) l.is }
 
 -- the slots stay those of some set, whatever is added
-pub filled-last : (most n : ℕ) (low high : List ℕ) → Filled most n low high → 0 < n → (to : ℕ) → Filled most n low (set high (n - 1) to)
-filled-last most n low high f z to =
+pub filled_last : (most n : ℕ) (low high : List ℕ) → Filled most n low high → 0 < n → (to : ℕ) → Filled most n low (set high (n - 1) to)
+filled_last most n low high f z to =
     let l = last_of f.spans (omega (arith, f.slots.count)) in
-    record { spans = l.front ++ one l.last.low to; slots = slots-last most l.front n low high l.last to (subst (λ ss. Slots most ss n low high) l.is f.slots) }
+    record { spans = l.front ++ one l.last.low to; slots = slots_last most l.front n low high l.last to (subst (λ ss. Slots most ss n low high) l.is f.slots) }
 
-pub filled-new : (most n : ℕ) (low high : List ℕ) → Filled most n low high → n < most → (from to : ℕ) → Filled most (n + 1) (set low n from) (set high n to)
-filled-new most n low high f z from to = record { spans = f.spans ++ one from to; slots = slots-new most f.spans n low high (span from to) f.slots z }
+pub filled_new : (most n : ℕ) (low high : List ℕ) → Filled most n low high → n < most → (from to : ℕ) → Filled most (n + 1) (set low n from) (set high n to)
+filled_new most n low high f z from to = record { spans = f.spans ++ one from to; slots = slots_new most f.spans n low high (span from to) f.slots z }
 
 module _ (most : ℕ) (P : ℕ → Bool) (n from to : ℕ) (low high : List ℕ) (h : Held most P from n low high) (k : from ≤ to)
     (on : (y : ℕ) → from ≤ y → y ≤ to → P y ≡ true) where
-  pub push-last : 0 < n → get_or high (n - 1) 0 + 1 ≡ from → Held most P (to + 1) n low (set high (n - 1) to)
-  push-last z q =
+  pub push_last : 0 < n → get_or high (n - 1) 0 + 1 ≡ from → Held most P (to + 1) n low (set high (n - 1) to)
+  push_last z q =
       let l = last_of h.spans (omega (arith, h.slots.count)) in
       let w = subst (λ ss. Slots most ss n low high) l.is h.slots in
       record {
         spans = l.front ++ one l.last.low to;
-        slots = slots-last most l.front n low high l.last to w;
-        holds = grow_last l.front P from to k on l.last.low l.last.high (ap (λ e. e + 1) (sym (last-high most l.front n low high l.last w)) ∙ q)
+        slots = slots_last most l.front n low high l.last to w;
+        holds = grow_last l.front P from to k on l.last.low l.last.high (ap (λ e. e + 1) (sym (last_high most l.front n low high l.last w)) ∙ q)
             (subst (λ ss. Holds ss P from) l.is h.holds);
       }
 
@@ -60,39 +60,39 @@ module _ (most : ℕ) (P : ℕ → Bool) (n from to : ℕ) (low high : List ℕ)
       let l = last_of h.spans (omega (arith, h.slots.count, f.0)) in
       let a = l.last.low in
       let b = l.last.high in
-      let w = last-high most l.front n low high l.last (subst (λ ss. Slots most ss n low high) l.is h.slots) in
-      let c = chain-front 0 l.front a b (from + 1) (subst (λ ss. Chain 0 ss (from + 1)) l.is h.holds.chain) in
+      let w = last_high most l.front n low high l.last (subst (λ ss. Slots most ss n low high) l.is h.slots) in
+      let c = chain_front 0 l.front a b (from + 1) (subst (λ ss. Chain 0 ss (from + 1)) l.is h.holds.chain) in
       subst (λ ss. Chain 0 ss from) (sym l.is)
-      (chain_more 0 (l.front ++ one a b) (b + 2) from (apart-end b c.2 (λ e. f.1 (ap (λ v. v + 1) w ∙ e))) (chain_snoc 0 l.front a b c.0 c.1))
+      (chain_more 0 (l.front ++ one a b) (b + 2) from (apart_end b c.2 (λ e. f.1 (ap (λ v. v + 1) w ∙ e))) (chain_snoc 0 l.front a b c.0 c.1))
     where
-      apart-end : (b : ℕ) → b + 2 ≤ from + 1 → (b + 1 ≡ from → ⊥) → b + 2 ≤ from
-      apart-end b u v = omega (arith, v)
+      apart_end : (b : ℕ) → b + 2 ≤ from + 1 → (b + 1 ≡ from → ⊥) → b + 2 ≤ from
+      apart_end b u v = omega (arith, v)
 
-  pub push-new : Far → n < most → Held most P (to + 1) (n + 1) (set low n from) (set high n to)
-  push-new f z = record {
+  pub push_new : Far → n < most → Held most P (to + 1) (n + 1) (set low n from) (set high n to)
+  push_new f z = record {
     spans = h.spans ++ one from to;
-    slots = slots-new most h.spans n low high (span from to) h.slots z;
-    holds = grow-new h.spans P from to k on h.holds (apart f);
+    slots = slots_new most h.spans n low high (span from to) h.slots z;
+    holds = grow_new h.spans P from to k on h.holds (apart f);
   }
 
-  pub push-full : Far → most ≤ n → NoRoom most P (to + 1)
-  push-full f z m top r same =
+  pub push_full : Far → most ≤ n → NoRoom most P (to + 1)
+  push_full f z m top r same =
       let i = longer 0 h.spans m from top (apart f) r (λ y u. h.holds.below y u ∙ sym (same y (omega arith))) (same from (omega arith) ∙ on from (omega arith) k) in
       omega (arith, h.slots.count)
 
 -- the answers of a step
-pub grown-held : (most : ℕ) (P : ℕ → Bool) (b n : ℕ) (low high : List ℕ) → Held most P b n low high → Grown most P b n low high
-grown-held most P b n low high h = record { held = λ z. h; full = λ z. absurd (omega (arith, h.slots.fits, h.slots.count)) }
+pub grown_held : (most : ℕ) (P : ℕ → Bool) (b n : ℕ) (low high : List ℕ) → Held most P b n low high → Grown most P b n low high
+grown_held most P b n low high h = record { held = λ z. h; full = λ z. absurd (omega (arith, h.slots.fits, h.slots.count)) }
 
-pub grown-full : (most : ℕ) (P : ℕ → Bool) (b n : ℕ) (low high : List ℕ) → most < n → NoRoom most P b → Grown most P b n low high
-grown-full most P b n low high z f = record { held = λ w. absurd (omega arith); full = λ w. f }
+pub grown_full : (most : ℕ) (P : ℕ → Bool) (b n : ℕ) (low high : List ℕ) → most < n → NoRoom most P b → Grown most P b n low high
+grown_full most P b n low high z f = record { held = λ w. absurd (omega arith); full = λ w. f }
 
 -- up to and not with `to`
 pub fill_none : (most : ℕ) (P : ℕ → Bool) (from to n : ℕ) (low high : List ℕ) → to ≤ from → from ≤ to → Held most P from n low high → Grown most P to n low high
-fill_none most P from to n low high h k w = grown-held most P to n low high (subst (λ b. Held most P b n low high) (le_antisymm k h) w)
+fill_none most P from to n low high h k w = grown_held most P to n low high (subst (λ b. Held most P b n low high) (le_antisymm k h) w)
 
-pub fill-some : (most : ℕ) (P : ℕ → Bool) (to n : ℕ) (low high : List ℕ) → 0 < to → Grown most P (to - 1 + 1) n low high → Grown most P to n low high
-fill-some most P to n low high h g = subst (λ b. Grown most P b n low high) (back to h) g
+pub fill_some : (most : ℕ) (P : ℕ → Bool) (to n : ℕ) (low high : List ℕ) → 0 < to → Grown most P (to - 1 + 1) n low high → Grown most P to n low high
+fill_some most P to n low high h g = subst (λ b. Grown most P b n low high) (back to h) g
   where
     back : (b : ℕ) → 0 < b → b - 1 + 1 ≡ b
     back b z = omega arith

@@ -1,6 +1,6 @@
 -- How a set is built: from its lowest source up, as the writing of P below b, P any predicate. Definitions only.
 use Rattle.std.specs.Prelude.{ℕ, ◌+◌, ◌≤◌, ◌<◌, Bool, true, List, [], ◌∷◌, ◌≡◌, length}
-use Rattle.model.specs.Limits.{greatest, spansMost}
+use Rattle.model.specs.Limits.{greatest, spans_most}
 use Rattle.model.specs.Spans.{Spans, has, complement, Rising}
 use Rattle.suspects.specs.Slots.{Slots, Made, Listed}
 
@@ -37,15 +37,15 @@ pub record Filled (most n : ℕ) (low high : List ℕ) : Type 0 where
 -- from the writing below `from` of any P that has all from there to `to`, to that past `to`; with at most one range more
 pub record Pushes (n from to : ℕ) (low high : List ℕ) (r : ℕ) (low' high' : List ℕ) : Type 0 where
   pub few : r ≤ n + 1
-  pub filled : r ≤ spansMost → Filled spansMost r low' high'
-  pub grown : (P : ℕ → Bool) → Held spansMost P from n low high → ((y : ℕ) → from ≤ y → y ≤ to → P y ≡ true) → Grown spansMost P (to + 1) r low' high'
+  pub filled : r ≤ spans_most → Filled spans_most r low' high'
+  pub grown : (P : ℕ → Bool) → Held spans_most P from n low high → ((y : ℕ) → from ≤ y → y ≤ to → P y ≡ true) → Grown spans_most P (to + 1) r low' high'
 
 -- the same where `to` itself is not meant, and may be `from`
 pub record Fills (n from to : ℕ) (low high : List ℕ) (r : ℕ) (low' high' : List ℕ) : Type 0 where
   pub few : r ≤ n + 1
-  pub grown : (P : ℕ → Bool) → from ≤ to → Held spansMost P from n low high → ((y : ℕ) → from ≤ y → y < to → P y ≡ true) → Grown spansMost P to r low' high'
+  pub grown : (P : ℕ → Bool) → from ≤ to → Held spans_most P from n low high → ((y : ℕ) → from ≤ y → y < to → P y ≡ true) → Grown spans_most P to r low' high'
 
 -- the complement of whatever rising ranges stand there
 pub record Gaps (low high : List ℕ) (at count r : ℕ) (low' high' : List ℕ) : Type 0 where
   pub few : r ≤ count + 1
-  pub made : (ranges : Spans) (top : ℕ) → Rising top 0 ranges → length ranges ≡ count → Listed low high at ranges → Made spansMost (complement greatest ranges) r low' high'
+  pub made : (ranges : Spans) (top : ℕ) → Rising top 0 ranges → length ranges ≡ count → Listed low high at ranges → Made spans_most (complement greatest ranges) r low' high'

@@ -1,9 +1,9 @@
 // The set of suspects: rising ranges, neither touching nor overlapping, in slots of which the unused are 0.
 ghost use Rattle.std.specs.Prelude.{◌≡◌, ℕ, ◌+◌, ◌≤◌, false, [], length, take, drop};
-ghost use Rattle.model.specs.Limits.{greatest, rangesMost, spansMost};
+ghost use Rattle.model.specs.Limits.{greatest, ranges_most, spans_most};
 ghost use Rattle.model.specs.Spans.{one};
 ghost use Rattle.model.specs.Review.{Phase};
-ghost use Rattle.model.specs.Slices.{zip, rising, zeros, inWriting};
+ghost use Rattle.model.specs.Slices.{zip, rising, zeros, in_writing};
 ghost use Rattle.suspects.specs.Slots.{Slots, writes, holding, Complements, Ranges, Outside};
 ghost use Rattle.suspects.specs.Build.{Filled, Pushes, Fills, Gaps};
 
@@ -99,7 +99,7 @@ fn wide(x: u32) -> u64
 
 // Whether the first `n` ranges rise and leave out an address between one and the next.
 fn is_rising(low: &[u32; Suspects::MAX], high: &[u32; Suspects::MAX], n: usize) -> bool
-    requires { (n ≤ spansMost) × (length low.now ≡ spansMost) × (length high.now ≡ spansMost) }
+    requires { (n ≤ spans_most) × (length low.now ≡ spans_most) × (length high.now ≡ spans_most) }
     ensures { result ≡ rising 0 (zip (take n low.now) (take n high.now)) }
 {
     let mut i: usize = 0;
@@ -121,7 +121,7 @@ fn is_rising(low: &[u32; Suspects::MAX], high: &[u32; Suspects::MAX], n: usize) 
 
 // Whether the slots from `n` on are 0.
 fn is_clear(slots: &[u32; Suspects::MAX], n: usize) -> bool
-    requires { (n ≤ spansMost) × (length slots.now ≡ spansMost) }
+    requires { (n ≤ spans_most) × (length slots.now ≡ spans_most) }
     ensures { result ≡ zeros (drop n slots.now) }
 {
     let mut i: usize = n;
@@ -136,7 +136,7 @@ fn is_clear(slots: &[u32; Suspects::MAX], n: usize) -> bool
 
 // Whether a value is a set's one writing. Any numbers may stand in it.
 pub fn is_written(s: Suspects) -> bool
-    ensures { (port place : ℕ) (phase : Phase) → result ≡ inWriting (holding s port place phase) }
+    ensures { (port place : ℕ) (phase : Phase) → result ≡ in_writing (holding s port place phase) }
 {
     let n = s.count;
     if Suspects::MAX < n {
@@ -161,7 +161,7 @@ pub fn push(
     from: u32,
     to: u32,
 ) -> usize
-    requires { Filled spansMost n low.old high.old × (from ≤ to) }
+    requires { Filled spans_most n low.old high.old × (from ≤ to) }
     ensures { Pushes n from to low.old high.old result low.new high.new }
 {
     if 0 < n {
@@ -191,7 +191,7 @@ fn fill(
     from: u64,
     to: u64,
 ) -> usize
-    requires { Filled spansMost n low.old high.old × (to ≤ greatest + 1) }
+    requires { Filled spans_most n low.old high.old × (to ≤ greatest + 1) }
     ensures { Fills n from to low.old high.old result low.new high.new }
 {
     if to <= from {
@@ -210,7 +210,7 @@ fn gaps(
     lower: &mut [u32; Suspects::MAX],
     upper: &mut [u32; Suspects::MAX],
 ) -> usize
-    requires { Ranges low.now high.now from count × Slots spansMost [] 0 lower.old upper.old }
+    requires { Ranges low.now high.now from count × Slots spans_most [] 0 lower.old upper.old }
     ensures { Gaps low.now high.now from count result lower.new upper.new }
 {
     let mut n: usize = 0;
@@ -233,7 +233,7 @@ fn gaps(
 
 // The addresses outside a plan's ranges. Those are so few that there is room for what lies between them.
 pub fn outside(low: &[u32], high: &[u32], from: usize, count: usize) -> Suspects
-    requires { Ranges low.now high.now from count × (count ≤ rangesMost) }
+    requires { Ranges low.now high.now from count × (count ≤ ranges_most) }
     ensures { Outside low.now high.now from count result }
 {
     let mut a = [0u32; Suspects::MAX];

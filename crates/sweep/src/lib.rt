@@ -1,6 +1,6 @@
 // What one rule of the list does to the suspects. A range is walked from horizon to horizon: the rule's conditions have one value up to each.
 ghost use Rattle.std.specs.Prelude.{◌≡◌, false, [], ◌≤◌, min};
-ghost use Rattle.model.specs.Limits.{spansMost};
+ghost use Rattle.model.specs.Limits.{spans_most};
 ghost use Rattle.matching.specs.Conditions.{Writing};
 ghost use Rattle.suspects.specs.Slots.{Slots};
 ghost use Rattle.suspects.specs.Build.{Filled};
@@ -68,7 +68,7 @@ fn keep_piece(
     x: u32,
     high: u32,
 ) -> Next
-    requires { Writing s.now words.now from count × Filled spansMost n lower.old upper.old × (x ≤ high) }
+    requires { Writing s.now words.now from count × Filled spans_most n lower.old upper.old × (x ≤ high) }
     ensures { KeepsPiece s.now words.now from count port n lower.old upper.old x high result lower.new upper.new }
 {
     let held = ask(s, words, from, count, port, x);
@@ -100,7 +100,7 @@ fn keep_range(
     low: u32,
     high: u32,
 ) -> usize
-    requires { Writing s.now words.now from count × Filled spansMost n lower.old upper.old × (low ≤ high) }
+    requires { Writing s.now words.now from count × Filled spans_most n lower.old upper.old × (low ≤ high) }
     ensures { KeepsRange s.now words.now from count port n lower.old upper.old low high result lower.new upper.new }
 {
     let end = high as u64;
@@ -130,7 +130,7 @@ pub fn drop_suspects(
     lower: &mut [u32; Suspects::MAX],
     upper: &mut [u32; Suspects::MAX],
 ) -> usize
-    requires { Writing s.now words.now from count × Kept n low.now high.now × Slots spansMost [] 0 lower.old upper.old }
+    requires { Writing s.now words.now from count × Kept n low.now high.now × Slots spans_most [] 0 lower.old upper.old }
     ensures { Drops s.now words.now from count port low.now high.now n result lower.new upper.new }
 {
     let mut m: usize = 0;

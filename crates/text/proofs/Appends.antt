@@ -13,15 +13,15 @@ use borrow.Author.Tests.{lt-ltb, le-ltb}
 use Rattle.model.specs.Answer.{when}
 use Rattle.model.specs.Report.{digits, decimal}
 use Rattle.model.specs.Filling.{put}
-use Rattle.model.proofs.Filling.{length-put, put-put, put-none, put-snoc}
-use Rattle.text.specs.Puts.{Puts, decimalMost}
+use Rattle.model.proofs.Filling.{length_put, put_put, put_none, put_snoc}
+use Rattle.text.specs.Puts.{Puts, decimal_most}
 
 -- as many bytes as before
-pub puts-length : {w : List ℕ} {at : ℕ} {xs : List ℕ} {r : ℕ} {w' : List ℕ} → Puts w at xs r w' → length w' ≡ length w
-puts-length {w} {at} {xs} h = ap length h.written ∙ length-put w at xs h.fits
+pub puts_length : {w : List ℕ} {at : ℕ} {xs : List ℕ} {r : ℕ} {w' : List ℕ} → Puts w at xs r w' → length w' ≡ length w
+puts_length {w} {at} {xs} h = ap length h.written ∙ length_put w at xs h.fits
 
 pub nothing : (w : List ℕ) (at : ℕ) → at ≤ length w → Puts w at [] at w
-nothing w at h = record { next = sym (add-zero at); fits = omega arith; written = sym (put-none w at) }
+nothing w at h = record { next = sym (add-zero at); fits = omega arith; written = sym (put_none w at) }
 
 -- one text behind another
 pub then : {w : List ℕ} {at : ℕ} {xs : List ℕ} {m : ℕ} {w' : List ℕ} {ys : List ℕ} {r : ℕ} {w'' : List ℕ} →
@@ -32,11 +32,11 @@ then {w} {at} {xs} {m} {w'} {ys} {r} {w''} p q =
     let b : r ≡ m + length ys = q.next in
     let f : at + length xs ≤ length w = p.fits in
     let g : m + length ys ≤ length w' = q.fits in
-    let e : length w' ≡ length w = puts-length p in
+    let e : length w' ≡ length w = puts_length p in
     record {
       next = omega (arith, l, a, b);
       fits = omega (arith, l, a, g, e);
-      written = q.written ∙ ap (λ (v : List ℕ). put v m ys) p.written ∙ ap (λ (k : ℕ). put (put w at xs) k ys) a ∙ put-put w at xs ys (omega arith);
+      written = q.written ∙ ap (λ (v : List ℕ). put v m ys) p.written ∙ ap (λ (k : ℕ). put (put w at xs) k ys) a ∙ put_put w at xs ys (omega arith);
     }
 
 -- one byte more
@@ -44,57 +44,57 @@ pub byte : {w : List ℕ} {at : ℕ} {xs : List ℕ} {m : ℕ} {w' : List ℕ} (
 byte {w} {at} {xs} {m} {w'} x p h =
     let l : length (xs ++ (x ∷ [])) ≡ length xs + 1 = length-append xs (x ∷ []) in
     let a : m ≡ at + length xs = p.next in
-    let e : length w' ≡ length w = puts-length p in
+    let e : length w' ≡ length w = puts_length p in
     record {
       next = omega (arith, l, a);
       fits = omega (arith, l, a, e, h);
-      written = ap (λ (v : List ℕ). set v m x) p.written ∙ put-snoc w at xs m x (omega arith) a;
+      written = ap (λ (v : List ℕ). set v m x) p.written ∙ put_snoc w at xs m x (omega arith) a;
     }
 
 -- how many digits there are at most
-pub digits-short : (n x : ℕ) → length (digits n x) ≤ n
+pub digits_short : (n x : ℕ) → length (digits n x) ≤ n
 unfolding digits
-digits-short zero x = omega arith
-digits-short (suc n) x = by-test (ltb x 10) (digits-short n (x / 10))
+digits_short zero x = omega arith
+digits_short (suc n) x = by_test (ltb x 10) (digits_short n (x / 10))
   where
-    by-test : (b : Bool) → length (digits n (x / 10)) ≤ n → length (when b ((48 + x) ∷ []) (digits n (x / 10) ++ ((48 + x % 10) ∷ []))) ≤ suc n
-    by-test true h = omega arith
-    by-test false h = omega (arith, length-append (digits n (x / 10)) ((48 + x % 10) ∷ []), h)
+    by_test : (b : Bool) → length (digits n (x / 10)) ≤ n → length (when b ((48 + x) ∷ []) (digits n (x / 10) ++ ((48 + x % 10) ∷ []))) ≤ suc n
+    by_test true h = omega arith
+    by_test false h = omega (arith, length-append (digits n (x / 10)) ((48 + x % 10) ∷ []), h)
 
-pub decimal-short : (x : ℕ) → length (decimal x) ≤ decimalMost
-decimal-short x = digits-short 10 x
+pub decimal_short : (x : ℕ) → length (decimal x) ≤ decimal_most
+decimal_short x = digits_short 10 x
 
 -- where a text and one behind it have room, the second has room after the first
-pub room-left : {w : List ℕ} {at : ℕ} {xs : List ℕ} {m : ℕ} {w' : List ℕ} (k j : ℕ) → Puts w at xs m w' → length xs ≤ k → at + (k + j) ≤ length w → m + j ≤ length w'
-room-left {w} {at} {xs} {m} {w'} k j p h r = omega (arith, p.next, puts-length p, h, r)
+pub room_left : {w : List ℕ} {at : ℕ} {xs : List ℕ} {m : ℕ} {w' : List ℕ} (k j : ℕ) → Puts w at xs m w' → length xs ≤ k → at + (k + j) ≤ length w → m + j ≤ length w'
+room_left {w} {at} {xs} {m} {w'} k j p h r = omega (arith, p.next, puts_length p, h, r)
 
 -- THE DIGITS, by the last one
-pub no-digits : (w : List ℕ) (at n x : ℕ) → n ≡ 0 → at ≤ length w → Puts w at (digits n x) at w
+pub no_digits : (w : List ℕ) (at n x : ℕ) → n ≡ 0 → at ≤ length w → Puts w at (digits n x) at w
 unfolding digits
-no-digits w at n x e h = rw e (nothing w at h)
+no_digits w at n x e h = rw e (nothing w at h)
 
-pub one-digit : (w : List ℕ) (at n x : ℕ) → 0 < n → x < 10 → at < length w → Puts w at (digits n x) (at + 1) (set w at (48 + x))
+pub one_digit : (w : List ℕ) (at n x : ℕ) → 0 < n → x < 10 → at < length w → Puts w at (digits n x) (at + 1) (set w at (48 + x))
 unfolding digits
-one-digit w at zero x p lt h = absurd (omega (arith, p))
-one-digit w at (suc n) x p lt h = rw (lt-ltb x 10 lt) (byte (48 + x) (nothing w at (omega arith)) h)
+one_digit w at zero x p lt h = absurd (omega (arith, p))
+one_digit w at (suc n) x p lt h = rw (lt-ltb x 10 lt) (byte (48 + x) (nothing w at (omega arith)) h)
 
-pub last-digit : (w : List ℕ) (at n x m : ℕ) (w' : List ℕ) → 0 < n → 10 ≤ x → Puts w at (digits (n - 1) (x / 10)) m w' → m < length w' → Puts w at (digits n x) (m + 1) (set w' m (48 + x % 10))
+pub last_digit : (w : List ℕ) (at n x m : ℕ) (w' : List ℕ) → 0 < n → 10 ≤ x → Puts w at (digits (n - 1) (x / 10)) m w' → m < length w' → Puts w at (digits n x) (m + 1) (set w' m (48 + x % 10))
 unfolding digits
-last-digit w at zero x m w' p ge h lt = absurd (omega (arith, p))
-last-digit w at (suc n) x m w' p ge h lt = rw (le-ltb x 10 ge) (byte (48 + x % 10) (subst (λ k. Puts w at (digits k (x / 10)) m w') (suc-sub-one n) h) lt)
+last_digit w at zero x m w' p ge h lt = absurd (omega (arith, p))
+last_digit w at (suc n) x m w' p ge h lt = rw (le-ltb x 10 ge) (byte (48 + x % 10) (subst (λ k. Puts w at (digits k (x / 10)) m w') (suc_sub_one n) h) lt)
   where
-    suc-sub-one : (n : ℕ) → suc n - 1 ≡ n
-    suc-sub-one n = omega arith
+    suc_sub_one : (n : ℕ) → suc n - 1 ≡ n
+    suc_sub_one n = omega arith
 
 -- A TEXT, byte by byte
-pub text-none : (w : List ℕ) (at : ℕ) (text : List ℕ) → at + length text ≤ length w → Puts w at (take 0 text) (at + 0) w
-text-none w at text h = rw add-zero (nothing w at (omega arith))
+pub text_none : (w : List ℕ) (at : ℕ) (text : List ℕ) → at + length text ≤ length w → Puts w at (take 0 text) (at + 0) w
+text_none w at text h = rw add-zero (nothing w at (omega arith))
 
-pub text-next : (w : List ℕ) (at : ℕ) (text : List ℕ) (i : ℕ) (w' : List ℕ) → at + length text ≤ length w → i < length text → Puts w at (take i text) (at + i) w' →
+pub text_next : (w : List ℕ) (at : ℕ) (text : List ℕ) (i : ℕ) (w' : List ℕ) → at + length text ≤ length w → i < length text → Puts w at (take i text) (at + i) w' →
     Puts w at (take (i + 1) text) (at + (i + 1)) (set w' (at + i) (get_or text i 0))
-text-next w at text i w' h lt p =
-    let e : length w' ≡ length w = puts-length p in
+text_next w at text i w' h lt p =
+    let e : length w' ≡ length w = puts_length p in
     rw (add-one i, take-suc text i 0 lt) (subst (λ k. Puts w at (take i text ++ (get_or text i 0 ∷ [])) k (set w' (at + i) (get_or text i 0))) (omega arith) (byte (get_or text i 0) p (omega (arith, e))))
 
-pub text-all : (w : List ℕ) (at : ℕ) (text : List ℕ) (i : ℕ) (w' : List ℕ) → length text ≤ i → Puts w at (take i text) (at + i) w' → Puts w at text (at + i) w'
-text-all w at text i w' h p = rw (take_all i text h) at p
+pub text_all : (w : List ℕ) (at : ℕ) (text : List ℕ) (i : ℕ) (w' : List ℕ) → length text ≤ i → Puts w at (take i text) (at + i) w' → Puts w at text (at + i) w'
+text_all w at text i w' h p = rw (take_all i text h) at p

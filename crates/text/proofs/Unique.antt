@@ -4,5 +4,5 @@ use mathlib.Core.List.{List}
 use mathlib.Core.Path.{◌≡◌, sym, ◌∙◌}
 use Rattle.text.specs.Puts.{Puts}
 
-pub puts-unique : {w : List ℕ} {at : ℕ} {xs : List ℕ} {r r' : ℕ} {v v' : List ℕ} → Puts w at xs r v → Puts w at xs r' v' → (r ≡ r') × (v ≡ v')
-puts-unique p q = (p.next ∙ sym q.next, p.written ∙ sym q.written)
+pub puts_unique : {w : List ℕ} {at : ℕ} {xs : List ℕ} {r r' : ℕ} {v v' : List ℕ} → Puts w at xs r v → Puts w at xs r' v' → (r ≡ r') × (v ≡ v')
+puts_unique p q = (p.next ∙ sym q.next, p.written ∙ sym q.written)

@@ -1,7 +1,7 @@
 // Appends to a lent buffer: each function answers the place behind what it wrote.
 ghost use Rattle.std.specs.Prelude.{◌+◌, ◌≤◌, length, ◌∷◌};
 ghost use Rattle.model.specs.Report.{digits, decimal, dotted};
-ghost use Rattle.text.specs.Puts.{Puts, dottedMost, decimalMost};
+ghost use Rattle.text.specs.Puts.{Puts, dotted_most, decimal_most};
 
 pub fn put_text(buf: &mut [u8], at: usize, text: &[u8]) -> usize
     requires { at + length text.now ≤ length buf.old }
@@ -34,7 +34,7 @@ fn put_digits(buf: &mut [u8], at: usize, n: usize, x: usize) -> usize
 }
 
 pub fn put_decimal(buf: &mut [u8], at: usize, x: usize) -> usize
-    requires { at + decimalMost ≤ length buf.old }
+    requires { at + decimal_most ≤ length buf.old }
     ensures { Puts buf.old at (decimal x) result buf.new }
 {
     put_digits(buf, at, 10, x)
@@ -42,7 +42,7 @@ pub fn put_decimal(buf: &mut [u8], at: usize, x: usize) -> usize
 
 // A dot and a number.
 fn put_part(buf: &mut [u8], at: usize, x: usize) -> usize
-    requires { at + (1 + decimalMost) ≤ length buf.old }
+    requires { at + (1 + decimal_most) ≤ length buf.old }
     ensures { Puts buf.old at (46 ∷ decimal x) result buf.new }
 {
     buf[at] = 46;
@@ -51,7 +51,7 @@ fn put_part(buf: &mut [u8], at: usize, x: usize) -> usize
 
 // An address by its four bytes, the highest first.
 pub fn put_dotted(buf: &mut [u8], at: usize, x: u32) -> usize
-    requires { at + dottedMost ≤ length buf.old }
+    requires { at + dotted_most ≤ length buf.old }
     ensures { Puts buf.old at (dotted x) result buf.new }
 {
     let a = x / 16777216;

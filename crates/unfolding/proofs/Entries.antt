@@ -7,7 +7,7 @@ use mathlib.Core.List.{List, [], ◌∷◌, ◌++◌}
 use lib.ListN.{length, get_or, take, set, length-set}
 use lib.Seq.{length-take-le, take-suc}
 use Rattle.model.specs.Filling.{put}
-use Rattle.model.proofs.Filling.{put-put, put-none, put-snoc, set-put, length-put}
+use Rattle.model.proofs.Filling.{put_put, put_none, put_snoc, set_put, length_put}
 use Rattle.unfolding.specs.Emitted.{entry}
 use Rattle.unfolding.specs.Walking.{Writable}
 
@@ -25,22 +25,22 @@ module _ (ctx : List ℕ) (count : ℕ) (w : List ℕ) (at a n : ℕ) (fits : Wr
   abbrev headed : List ℕ
   headed = set (set (set w at a) (at + 1) n) (at + 2) count
 
-  pub headed-length : length headed ≡ length w
-  headed-length = simp length-set
+  pub headed_length : length headed ≡ length w
+  headed_length = simp length-set
 
-  head-written : headed ≡ put w at (a ∷ n ∷ count ∷ [])
-  head-written =
+  head_written : headed ≡ put w at (a ∷ n ∷ count ∷ [])
+  head_written =
       let h : at + (count + 3) ≤ length w = fits.room in
-      rw (set-put w at a (omega arith), put-snoc w at (a ∷ []) (at + 1) n (omega arith) (omega arith), put-snoc w at (a ∷ n ∷ []) (at + 2) count (omega arith) (omega arith))
+      rw (set_put w at a (omega arith), put_snoc w at (a ∷ []) (at + 1) n (omega arith) (omega arith), put_snoc w at (a ∷ n ∷ []) (at + 2) count (omega arith) (omega arith))
 
   pub copied_none : Copied ctx count at headed 0 headed
-  copied_none = (omega arith, sym (put-none headed (at + 3)))
+  copied_none = (omega arith, sym (put_none headed (at + 3)))
 
   module _ (j : ℕ) (v : List ℕ) (c : Copied ctx count at headed j v) where
-    pub copied-length : length v ≡ length w
-    copied-length =
+    pub copied_length : length v ≡ length w
+    copied_length =
         let l : length (take j ctx) ≡ j = length-take-le j ctx (omega (arith, c.0, fits.has)) in
-        ap length c.1 ∙ length-put headed (at + 3) (take j ctx) (omega (arith, headed-length, fits.room, c.0)) ∙ headed-length
+        ap length c.1 ∙ length_put headed (at + 3) (take j ctx) (omega (arith, headed_length, fits.room, c.0)) ∙ headed_length
 
     pub copied_next : j < count → Copied ctx count at headed (j + 1) (set v (at + 3 + j) (get_or ctx j 0))
     copied_next lt =
@@ -48,7 +48,7 @@ module _ (ctx : List ℕ) (count : ℕ) (w : List ℕ) (at a n : ℕ) (fits : Wr
         let l : length (take j ctx) ≡ j = length-take-le j ctx (omega arith) in (
           omega arith,
           ap (λ z. set z (at + 3 + j) (get_or ctx j 0)) c.1
-              ∙ put-snoc headed (at + 3) (take j ctx) (at + 3 + j) (get_or ctx j 0) (omega (arith, headed-length, fits.room)) (omega arith)
+              ∙ put_snoc headed (at + 3) (take j ctx) (at + 3 + j) (get_or ctx j 0) (omega (arith, headed_length, fits.room)) (omega arith)
               ∙ ap (put headed (at + 3)) (sym (take_next ctx j in-ctx)),
         )
 
@@ -57,4 +57,4 @@ module _ (ctx : List ℕ) (count : ℕ) (w : List ℕ) (at a n : ℕ) (fits : Wr
         let e : j ≡ count = omega (arith, c.0) in
         let l : length (take count ctx) ≡ count = length-take-le count ctx fits.has in
         let le : at ≤ length w = omega (arith, fits.room) in
-        c.1 ∙ rw (e, head-written, put-put w at (a ∷ n ∷ count ∷ []) (take count ctx) le, l)
+        c.1 ∙ rw (e, head_written, put_put w at (a ∷ n ∷ count ∷ []) (take count ctx) le, l)

@@ -6,28 +6,28 @@ use mathlib.Core.List.{List, [], ◌++◌}
 use lib.ListN.{length, take, length-append}
 use lib.Seq.{take-take}
 use Rattle.model.specs.Filling.{put}
-use Rattle.model.proofs.Filling.{put-put, put-none}
-use Rattle.unfolding.specs.Emitted.{ruleWords, after, own_at, actionAt, rulesWords}
+use Rattle.model.proofs.Filling.{put_put, put_none}
+use Rattle.unfolding.specs.Emitted.{rule_words, after, own_at, action_at, rules_words}
 use Rattle.unfolding.specs.Walking.{Ruled}
 
 module _ (action target expression : List ℕ) (run : List ℕ → ℕ → List ℕ) where
   -- what the rules from i up to the end put in, what rule i does, and the conditions after it
   abbrev pub Rest : ℕ → List ℕ → ℕ → List ℕ
-  Rest end cs i = rulesWords action target expression run cs i (end - i)
+  Rest end cs i = rules_words action target expression run cs i (end - i)
 
   abbrev pub Puts : List ℕ → ℕ → List ℕ
-  Puts cs i = ruleWords run cs i (own_at expression i) (actionAt action target i)
+  Puts cs i = rule_words run cs i (own_at expression i) (action_at action target i)
 
   abbrev pub Leaves : List ℕ → ℕ → List ℕ
-  Leaves cs i = after cs (own_at expression i) (actionAt action target i)
+  Leaves cs i = after cs (own_at expression i) (action_at action target i)
 
   rest_more : (end : ℕ) (cs : List ℕ) (i : ℕ) → i < end → Rest end cs i ≡ Puts cs i ++ Rest end (Leaves cs i) (i + 1)
-  unfolding rulesWords
+  unfolding rules_words
   rest_more end cs i lt = let e : end - i ≡ suc (end - (i + 1)) = omega arith in rw e
 
-  rest-none : (end : ℕ) (cs : List ℕ) (i : ℕ) → end ≤ i → Rest end cs i ≡ []
-  unfolding rulesWords
-  rest-none end cs i h = let e : end - i ≡ 0 = omega arith in rw e
+  rest_none : (end : ℕ) (cs : List ℕ) (i : ℕ) → end ≤ i → Rest end cs i ≡ []
+  unfolding rules_words
+  rest_none end cs i h = let e : end - i ≡ 0 = omega arith in rw e
 
   pub record Going (i₀ end n at : ℕ) (ctx₀ w₀ : List ℕ) (i m to : ℕ) (ctx w : List ℕ) : Type 0 where
     pub from : i₀ ≤ i
@@ -46,21 +46,21 @@ module _ (action target expression : List ℕ) (run : List ℕ → ℕ → List 
 
     module _ (i m to : ℕ) (ctx w : List ℕ) (g : Going i₀ end n at ctx₀ w₀ i m to ctx w) where
       module _ (lt : i < end) (room : at + length (Rest end (take n ctx₀) i₀) ≤ length w₀) where
-        rest-length : length (Rest end (take m ctx) i) ≡ length (Puts (take m ctx) i) + length (Rest end (Leaves (take m ctx) i) (i + 1))
-        rest-length = ap length (rest_more end (take m ctx) i lt) ∙ length-append (Puts (take m ctx) i) (Rest end (Leaves (take m ctx) i) (i + 1))
+        rest_length : length (Rest end (take m ctx) i) ≡ length (Puts (take m ctx) i) + length (Rest end (Leaves (take m ctx) i) (i + 1))
+        rest_length = ap length (rest_more end (take m ctx) i lt) ∙ length-append (Puts (take m ctx) i) (Rest end (Leaves (take m ctx) i) (i + 1))
 
-        pub going-room : to + length (Puts (take m ctx) i) ≤ length w
-        going-room = omega (arith, rest-length, g.count, g.words)
+        pub going_room : to + length (Puts (take m ctx) i) ≤ length w
+        going_room = omega (arith, rest_length, g.count, g.words)
 
         pub going_step : (m' to' : ℕ) (ctx' w' : List ℕ) → Ruled (Puts (take m ctx) i) (Leaves (take m ctx) i) ctx m w to m' to' ctx' w' → length ctx' ≡ length ctx → length w' ≡ length w → Going i₀ end n at ctx₀ w₀ (i + 1) m' to' ctx' w'
         going_step m' to' ctx' w' p lc lw =
-            let le : to ≤ length w = omega (arith, going-room) in
+            let le : to ≤ length w = omega (arith, going_room) in
             let le' : n ≤ m = g.low in
             record {
               from = omega (arith, g.from);
               upto = omega arith;
-              written = rw (p.conditions, p.written, p.count, put-put w to (Puts (take m ctx) i) (Rest end (Leaves (take m ctx) i) (i + 1)) le, ← rest_more end (take m ctx) i lt) g.written;
-              count = rw p.conditions (omega (arith, p.count, rest-length, g.count));
+              written = rw (p.conditions, p.written, p.count, put_put w to (Puts (take m ctx) i) (Rest end (Leaves (take m ctx) i) (i + 1)) le, ← rest_more end (take m ctx) i lt) g.written;
+              count = rw p.conditions (omega (arith, p.count, rest_length, g.count));
               words = lw ∙ g.words;
               scratch = lc ∙ g.scratch;
               kept = sym (take-take n m ctx' le') ∙ ap (take n) p.kept ∙ take-take n m ctx le' ∙ g.kept;
@@ -68,8 +68,8 @@ module _ (action target expression : List ℕ) (run : List ℕ → ℕ → List 
               high = omega (arith, g.high, p.one);
             }
 
-      pub going-count : end ≤ i → to ≡ at + length (Rest end (take n ctx₀) i₀)
-      going-count ge = omega (arith, g.count, ap length (rest-none end (take m ctx) i ge))
+      pub going_count : end ≤ i → to ≡ at + length (Rest end (take n ctx₀) i₀)
+      going_count ge = omega (arith, g.count, ap length (rest_none end (take m ctx) i ge))
 
-      pub going-written : end ≤ i → w ≡ put w₀ at (Rest end (take n ctx₀) i₀)
-      going-written ge = sym (put-none w to) ∙ ap (put w to) (sym (rest-none end (take m ctx) i ge)) ∙ g.written
+      pub going_written : end ≤ i → w ≡ put w₀ at (Rest end (take n ctx₀) i₀)
+      going_written ge = sym (put_none w to) ∙ ap (put w to) (sym (rest_none end (take m ctx) i ge)) ∙ g.written

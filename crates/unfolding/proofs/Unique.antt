@@ -4,10 +4,10 @@ use mathlib.Core.Path.{◌≡◌, sym, ◌∙◌}
 use mathlib.Core.List.{List}
 use Rattle.unfolding.specs.Unfolded.{Unfoldable, Unfolded}
 
-pub unfolded-same : {first action target expression : List ℕ} {chains rules policy space : ℕ} → Unfoldable first action target expression chains rules policy space
+pub unfolded_same : {first action target expression : List ℕ} {chains rules policy space : ℕ} → Unfoldable first action target expression chains rules policy space
     → {before : List ℕ} {count count' : ℕ} {now now' : List ℕ} → Unfolded first action target expression chains rules policy before count now → Unfolded first action target expression chains rules policy before count' now'
     → (count ≡ count') × (now ≡ now')
-unfolded-same u one two =
+unfolded_same u one two =
     let a = one u.book u.holds in
     let b = two u.book u.holds in
     (a.counted ∙ sym b.counted, a.words ∙ sym b.words)

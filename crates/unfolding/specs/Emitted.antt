@@ -2,21 +2,21 @@
 use Rattle.std.specs.Prelude.{ℕ, zero, suc, ◌+◌, ◌*◌, List, [], ◌∷◌, ◌++◌, length, get_or}
 use Rattle.model.specs.Tree.{Action}
 use Rattle.model.specs.Tree.Action.{accept, drop, reject, log, empty, return, call}
-use Rattle.book.specs.Contents.{actionOf, rulesIn}
+use Rattle.book.specs.Contents.{action_of, rules_in}
 
 -- a list rule
 abbrev pub entry : ℕ → ℕ → List ℕ → List ℕ
 entry a n cs = a ∷ n ∷ length cs ∷ cs
 
 -- what rule n puts into the list under the conditions cs, `own` being the word of its match and `run` what a called chain puts
-abbrev pub ruleWords : (List ℕ → ℕ → List ℕ) → List ℕ → ℕ → ℕ → Action → List ℕ
-ruleWords run cs n own accept = entry 0 n (cs ++ (own ∷ []))
-ruleWords run cs n own drop = entry 1 n (cs ++ (own ∷ []))
-ruleWords run cs n own reject = entry 1 n (cs ++ (own ∷ []))
-ruleWords run cs n own log = []
-ruleWords run cs n own empty = []
-ruleWords run cs n own return = []
-ruleWords run cs n own (call c) = run (cs ++ (own ∷ [])) c
+abbrev pub rule_words : (List ℕ → ℕ → List ℕ) → List ℕ → ℕ → ℕ → Action → List ℕ
+rule_words run cs n own accept = entry 0 n (cs ++ (own ∷ []))
+rule_words run cs n own drop = entry 1 n (cs ++ (own ∷ []))
+rule_words run cs n own reject = entry 1 n (cs ++ (own ∷ []))
+rule_words run cs n own log = []
+rule_words run cs n own empty = []
+rule_words run cs n own return = []
+rule_words run cs n own (call c) = run (cs ++ (own ∷ [])) c
 
 -- the conditions for what stands after it in its chain
 abbrev pub after : List ℕ → ℕ → Action → List ℕ
@@ -32,17 +32,17 @@ after cs own (call c) = cs
 abbrev pub field_own : List ℕ → ℕ → ℕ
 field_own expression i = 2 * get_or expression i 0
 
-abbrev pub actionAt : List ℕ → List ℕ → ℕ → Action
-actionAt action target i = actionOf (get_or action i 0) (get_or target i 0)
+abbrev pub action_at : List ℕ → List ℕ → ℕ → Action
+action_at action target i = action_of (get_or action i 0) (get_or target i 0)
 
 -- `left` rules from number i on
-unfoldable pub rulesWords : (action target expression : List ℕ) → (List ℕ → ℕ → List ℕ) → List ℕ → ℕ → ℕ → List ℕ
-rulesWords action target expression run cs i zero = []
-rulesWords action target expression run cs i (suc left) =
-    ruleWords run cs i (field_own expression i) (actionAt action target i) ++ rulesWords action target expression run (after cs (field_own expression i) (actionAt action target i)) (i + 1) left
+unfoldable pub rules_words : (action target expression : List ℕ) → (List ℕ → ℕ → List ℕ) → List ℕ → ℕ → ℕ → List ℕ
+rules_words action target expression run cs i zero = []
+rules_words action target expression run cs i (suc left) =
+    rule_words run cs i (field_own expression i) (action_at action target i) ++ rules_words action target expression run (after cs (field_own expression i) (action_at action target i)) (i + 1) left
 
 -- chain c, calls nesting at most d deep
-unfoldable pub chainWords : (first action target expression : List ℕ) → ℕ → List ℕ → ℕ → List ℕ
-unfolding rulesWords
-chainWords first action target expression zero cs c = []
-chainWords first action target expression (suc d) cs c = rulesWords action target expression (chainWords first action target expression d) cs (get_or first c 0) (rulesIn first c)
+unfoldable pub chain_words : (first action target expression : List ℕ) → ℕ → List ℕ → ℕ → List ℕ
+unfolding rules_words
+chain_words first action target expression zero cs c = []
+chain_words first action target expression (suc d) cs c = rules_words action target expression (chain_words first action target expression d) cs (get_or first c 0) (rules_in first c)

@@ -1,6 +1,6 @@
 -- What unfolding relies on, and what it leaves in the lent words.
 use Rattle.std.specs.Prelude.{ℕ, ◌≤◌, ◌≡◌, List, length}
-use Rattle.model.specs.Limits.{bookBytes}
+use Rattle.model.specs.Limits.{book_bytes}
 use Rattle.model.specs.Answer.{fine}
 use Rattle.model.specs.Tree.{Book, Rule, place_of, Every}
 use Rattle.model.specs.Calls.{LoopFree}
@@ -15,7 +15,7 @@ pub record Holds (b : Book) (first action target expression : List ℕ) (chains 
 
 -- no expression stands further on than a book is long, so a condition is a word of 32 bits
 abbrev pub Near : Book → Type 0
-Near b = Every (Every (λ (r : Rule). place_of r.match ≤ bookBytes)) b.chains
+Near b = Every (Every (λ (r : Rule). place_of r.match ≤ book_bytes)) b.chains
 
 -- They are those of a book without loops, and its list has room.
 pub record Unfoldable (first action target expression : List ℕ) (chains rules policy space : ℕ) : Type 0 where

@@ -6,11 +6,11 @@ use Rattle.model.specs.Answer.{fine}
 use Rattle.verdicts.specs.Verdicts.{told}
 use Rattle.verdicts.specs.declared.Verdict.TheVariants.{Accept, Drop}
 
-pub accept-is : (v : ℕ) → v ≡ 0 → told Accept ≡ fine v
-accept-is v e = ap (λ n. fine n) (sym e)
+pub accept_is : (v : ℕ) → v ≡ 0 → told Accept ≡ fine v
+accept_is v e = ap (λ n. fine n) (sym e)
 
-pub drop-is : (v : ℕ) → v ≤ 1 → (v ≡ 0 → ⊥) → told Drop ≡ fine v
-drop-is v h ne = ap (λ n. fine n) (one v h ne)
+pub drop_is : (v : ℕ) → v ≤ 1 → (v ≡ 0 → ⊥) → told Drop ≡ fine v
+drop_is v h ne = ap (λ n. fine n) (one v h ne)
   where
     one : (v : ℕ) → v ≤ 1 → (v ≡ 0 → ⊥) → 1 ≡ v
     one v h ne = omega (arith, ne)

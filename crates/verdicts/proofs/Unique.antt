@@ -5,9 +5,9 @@ use mathlib.Core.List.{List}
 use mathlib.Core.Path.{◌≡◌, refl, sym, ◌∙◌, ap}
 use lib.ListN.{length}
 use Rattle.model.specs.Answer.{Answer, fine, refused}
-use Rattle.model.specs.Entries.{chainEntry, listEntry, closureEntry}
+use Rattle.model.specs.Entries.{chain_entry, list_entry, closure_entry}
 use Rattle.walks.specs.declared.Packet.{Packet}
-use Rattle.walks.specs.Packets.{packetOf, tactic}
+use Rattle.walks.specs.Packets.{packet_of, tactic}
 use Rattle.verdicts.specs.Verdicts.{told}
 use Rattle.verdicts.specs.declared.Verdict.{Verdict}
 use Rattle.verdicts.specs.declared.Verdict.TheVariants.{Accept, Drop, Refused}
@@ -19,28 +19,28 @@ untold (fine zero) = Accept
 untold (fine (suc n)) = Drop
 untold (refused n p) = Refused n p
 
-untold-told : (r : Verdict) → untold (told r) ≡ r
+untold_told : (r : Verdict) → untold (told r) ≡ r
 unfolding untold
-untold-told Accept = refl
-untold-told Drop = refl
-untold-told (Refused n p) = refl
+untold_told Accept = refl
+untold_told Drop = refl
+untold_told (Refused n p) = refl
 
-pub one-verdict : (x y : Verdict) → told x ≡ told y → x ≡ y
-one-verdict x y e = sym (untold-told x) ∙ ap untold e ∙ untold-told y
+pub one_verdict : (x y : Verdict) → told x ≡ told y → x ≡ y
+one_verdict x y e = sym (untold_told x) ∙ ap untold e ∙ untold_told y
 
 module _ (book answers : List ℕ) (p : Packet) where
-  pub one-chain-verdict : (x y : Verdict) → told x ≡ chainEntry book answers (packetOf p) → told y ≡ chainEntry book answers (packetOf p) → x ≡ y
-  one-chain-verdict x y f g = one-verdict x y (f ∙ sym g)
+  pub one_chain_verdict : (x y : Verdict) → told x ≡ chain_entry book answers (packet_of p) → told y ≡ chain_entry book answers (packet_of p) → x ≡ y
+  one_chain_verdict x y f g = one_verdict x y (f ∙ sym g)
 
 -- of an entry that unfolds
-one-meeting : (a : Answer ℕ) (book lent : List ℕ) (x y : Verdict) (w v : List ℕ) → Meets a book x lent w → Meets a book y lent v → (x ≡ y) × (w ≡ v)
-one-meeting a book lent x y w v f g = (one-verdict x y (f.0 ∙ sym g.0), f.1 ∙ sym g.1)
+one_meeting : (a : Answer ℕ) (book lent : List ℕ) (x y : Verdict) (w v : List ℕ) → Meets a book x lent w → Meets a book y lent v → (x ≡ y) × (w ≡ v)
+one_meeting a book lent x y w v f g = (one_verdict x y (f.0 ∙ sym g.0), f.1 ∙ sym g.1)
 
 module _ (book : List ℕ) (p : Packet) (lent : List ℕ) (x y : Verdict) (w v : List ℕ) where
-  pub one-list-verdict : (answers : List ℕ) → Meets (listEntry book answers (packetOf p) (length lent)) book x lent w → Meets (listEntry book answers (packetOf p) (length lent)) book y lent v
+  pub one_list_verdict : (answers : List ℕ) → Meets (list_entry book answers (packet_of p) (length lent)) book x lent w → Meets (list_entry book answers (packet_of p) (length lent)) book y lent v
       → (x ≡ y) × (w ≡ v)
-  one-list-verdict answers = one-meeting (listEntry book answers (packetOf p) (length lent)) book lent x y w v
+  one_list_verdict answers = one_meeting (list_entry book answers (packet_of p) (length lent)) book lent x y w v
 
-  pub one-closure : (upper : Bool) → Meets (closureEntry (tactic upper) book (packetOf p) (length lent)) book x lent w → Meets (closureEntry (tactic upper) book (packetOf p) (length lent)) book y lent v
+  pub one_closure : (upper : Bool) → Meets (closure_entry (tactic upper) book (packet_of p) (length lent)) book x lent w → Meets (closure_entry (tactic upper) book (packet_of p) (length lent)) book y lent v
       → (x ≡ y) × (w ≡ v)
-  one-closure upper = one-meeting (closureEntry (tactic upper) book (packetOf p) (length lent)) book lent x y w v
+  one_closure upper = one_meeting (closure_entry (tactic upper) book (packet_of p) (length lent)) book lent x y w v

@@ -4,11 +4,11 @@ ghost use Rattle.model.specs.Answer.{fine};
 ghost use Rattle.model.specs.Tree.{Book};
 ghost use Rattle.model.specs.Calls.{readable};
 ghost use Rattle.model.specs.Matching.{matches};
-ghost use Rattle.model.specs.Chains.{chainVerdict};
-ghost use Rattle.model.specs.Entries.{chainEntry, listEntry, closureEntry, wordsAfter};
-ghost use Rattle.checking.specs.Checks.{refusalOf};
-ghost use Rattle.walks.specs.Packets.{packetOf, tactic};
-ghost use Rattle.verdicts.specs.Verdicts.{told, bothRead, Opened, Ready, Decides};
+ghost use Rattle.model.specs.Chains.{chain_verdict};
+ghost use Rattle.model.specs.Entries.{chain_entry, list_entry, closure_entry, words_after};
+ghost use Rattle.checking.specs.Checks.{refusal_of};
+ghost use Rattle.walks.specs.Packets.{packet_of, tactic};
+ghost use Rattle.verdicts.specs.Verdicts.{told, both_read, Opened, Ready, Decides};
 
 use book::{CHAINS, Contents};
 use checking::{Reading, check};
@@ -28,7 +28,7 @@ pub enum Verdict {
 
 // What the exact verdicts refuse before they look further: the book by its own refusal, then answers that are no bit for each unread match.
 fn answered(reading: Reading, answers: &[u8]) -> Reading
-    ensures { (s : List ℕ) → reading ≡ refusalOf (readable s) → result ≡ refusalOf (bothRead s answers.now) }
+    ensures { (s : List ℕ) → reading ≡ refusal_of (readable s) → result ≡ refusal_of (both_read s answers.now) }
 {
     match reading {
         Reading::Refused(n, place) => Reading::Refused(n, place),
@@ -56,7 +56,7 @@ fn named(value: u32) -> Verdict
 // By the chains of a book that was read.
 fn by_chains(book: &[u8], answers: &[u8], p: Packet, contents: Contents) -> Verdict
     requires { Opened book.now contents }
-    ensures { (b : Book) → readable book.now ≡ fine b → told result ≡ fine (chainVerdict b (matches answers.now (packetOf p))) }
+    ensures { (b : Book) → readable book.now ≡ fine b → told result ≡ fine (chain_verdict b (matches answers.now (packet_of p))) }
 {
     let chains = contents.chains;
     let policy = contents.policy;
@@ -100,7 +100,7 @@ fn by_list(
 
 // THE CHAIN VERDICT: 1 to 10, then 16.
 pub fn chain_verdict(book: &[u8], answers: &[u8], p: Packet) -> Verdict
-    ensures { told result ≡ chainEntry book.now answers.now (packetOf p) }
+    ensures { told result ≡ chain_entry book.now answers.now (packet_of p) }
 {
     let checked = check(book);
     let read = checked.reading;
@@ -116,8 +116,8 @@ pub fn chain_verdict(book: &[u8], answers: &[u8], p: Packet) -> Verdict
 
 // THE LIST VERDICT: 1 to 10, then 16, then 13.
 pub fn list_verdict(book: &[u8], answers: &[u8], p: Packet, words: &mut [u32]) -> Verdict
-    ensures answer { told result ≡ listEntry book.now answers.now (packetOf p) (length words.old) }
-    ensures lent { words.new ≡ wordsAfter (listEntry book.now answers.now (packetOf p) (length words.old)) book.now words.old }
+    ensures answer { told result ≡ list_entry book.now answers.now (packet_of p) (length words.old) }
+    ensures lent { words.new ≡ words_after (list_entry book.now answers.now (packet_of p) (length words.old)) book.now words.old }
 {
     let checked = check(book);
     let read = checked.reading;
@@ -134,8 +134,8 @@ pub fn list_verdict(book: &[u8], answers: &[u8], p: Packet, words: &mut [u32]) -
 
 // A CLOSURE, the upper or the lower: 1 to 10, then 13. It takes no answers, and looks at none of those that it hands on.
 pub fn closure(book: &[u8], upper: bool, p: Packet, words: &mut [u32]) -> Verdict
-    ensures answer { told result ≡ closureEntry (tactic upper) book.now (packetOf p) (length words.old) }
-    ensures lent { words.new ≡ wordsAfter (closureEntry (tactic upper) book.now (packetOf p) (length words.old)) book.now words.old }
+    ensures answer { told result ≡ closure_entry (tactic upper) book.now (packet_of p) (length words.old) }
+    ensures lent { words.new ≡ words_after (closure_entry (tactic upper) book.now (packet_of p) (length words.old)) book.now words.old }
 {
     let checked = check(book);
     let reading = checked.reading;

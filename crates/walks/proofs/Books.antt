@@ -8,14 +8,14 @@ use Rattle.model.specs.Calls.{readable}
 use Rattle.model.specs.Tree.{Book}
 use Rattle.model.specs.Standing.{BookStands}
 use Rattle.model.specs.Unfolding.{list_of, words_of}
-use Rattle.model.proofs.Success.{fine-is}
-use Rattle.model.proofs.Placed.{readable-placed, list-placed}
+use Rattle.model.proofs.Success.{fine_is}
+use Rattle.model.proofs.Placed.{readable_placed, list_placed}
 use Rattle.book.specs.Contents.{Charted}
 use Rattle.walks.specs.Walks.{Kept, Keeping, HasChains}
 use Rattle.walks.specs.Lists.{Lists, Listing}
 
-pub read-stands : (s : List ℕ) (b : Book) → readable s ≡ fine b → BookStands s b
-read-stands s b e = fine-is (BookStands s) (readable s) b (readable-placed s) e
+pub read_stands : (s : List ℕ) (b : Book) → readable s ≡ fine b → BookStands s b
+read_stands s b e = fine_is (BookStands s) (readable s) b (readable_placed s) e
 
 module _ (s : List ℕ) (b : Book) (stands : BookStands s b) where
   -- its chains, by the arrays
@@ -26,12 +26,12 @@ module _ (s : List ℕ) (b : Book) (stands : BookStands s b) where
       stands = stands;
     }
 
-    pub keeping-of : Keeping s first action target expression (HasChains chains)
-    keeping-of = record { book = b; kept = kept_of; so = c.count }
+    pub keeping_of : Keeping s first action target expression (HasChains chains)
+    keeping_of = record { book = b; kept = kept_of; so = c.count }
 
   -- its list, in the first of the lent words
   lists_of : (others : List ℕ) → Lists s (words_of (list_of b) ++ others) (length (words_of (list_of b))) (list_of b)
-  lists_of others = record { others = others; are = refl; counted = refl; placed = list-placed s b stands }
+  lists_of others = record { others = others; are = refl; counted = refl; placed = list_placed s b stands }
 
-  pub listing-of : (others : List ℕ) → Listing s (words_of (list_of b) ++ others) (length (words_of (list_of b)))
-  listing-of others = record { list = list_of b; lists = lists_of others }
+  pub listing_of : (others : List ℕ) → Listing s (words_of (list_of b) ++ others) (length (words_of (list_of b)))
+  listing_of others = record { list = list_of b; lists = lists_of others }

@@ -3,9 +3,9 @@ use Rattle.std.specs.Prelude.{ℕ, Bool, List, ◌++◌, ◌≡◌, length}
 use Rattle.model.specs.Standing.{Placed}
 use Rattle.model.specs.Matching.{value}
 use Rattle.model.specs.Unfolding.{ListRule, Listed, words_of}
-use Rattle.model.specs.Verdict.{listVerdict}
+use Rattle.model.specs.Verdict.{list_verdict}
 use Rattle.walks.specs.declared.Packet.{Packet}
-use Rattle.walks.specs.Packets.{packetOf, leavesOf, tactic}
+use Rattle.walks.specs.Packets.{packet_of, leaves_of, tactic}
 
 -- the first words, as many as `count`, are those of the list, and the expressions of its conditions stand in the bytes
 pub record Lists (s words : List ℕ) (count : ℕ) (list : List ListRule) : Type 0 where
@@ -22,4 +22,4 @@ pub record Listing (s words : List ℕ) (count : ℕ) : Type 0 where
 -- 0 accept, 1 drop
 abbrev pub ListSays : List ℕ → List ℕ → List ℕ → ℕ → Packet → Bool → Bool → ℕ → Type 0
 ListSays s answers words count p told upper r =
-    (list : List ListRule) → Lists s words count list → r ≡ listVerdict (tactic upper) (value (leavesOf told answers (packetOf p))) list
+    (list : List ListRule) → Lists s words count list → r ≡ list_verdict (tactic upper) (value (leaves_of told answers (packet_of p))) list

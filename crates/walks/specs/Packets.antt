@@ -6,17 +6,17 @@ use Rattle.model.specs.Verdict as verdict
 use Rattle.matching.specs.declared.Asking.{Asking}
 use Rattle.walks.specs.declared.Packet.{Packet}
 
-abbrev pub packetOf : Packet → model.Packet
-packetOf p = record { source = p.source; destination = p.destination; protocol = p.protocol; service = p.service; port = p.port }
+abbrev pub packet_of : Packet → model.Packet
+packet_of p = record { source = p.source; destination = p.destination; protocol = p.protocol; service = p.service; port = p.port }
 
 -- what the evaluator is asked besides the source: all of the packet, and the answers where they are told
-abbrev pub askingOf : Packet → Bool → Asking
-askingOf p told = record { destination = p.destination; protocol = p.protocol; service = p.service; port = p.port; packet = true; told = told }
+abbrev pub asking_of : Packet → Bool → Asking
+asking_of p told = record { destination = p.destination; protocol = p.protocol; service = p.service; port = p.port; packet = true; told = told }
 
 -- the exact verdict goes by the answers; a closure knows nothing of the unread matches
-abbrev pub leavesOf : Bool → List ℕ → model.Packet → Leaves
-leavesOf true answers p = exact answers p
-leavesOf false answers p = doubtful p
+abbrev pub leaves_of : Bool → List ℕ → model.Packet → Leaves
+leaves_of true answers p = exact answers p
+leaves_of false answers p = doubtful p
 
 -- whether a rule of this action is taken in doubt: by the upper closure, and by the lower
 abbrev pub tactic : Bool → ℕ → Bool

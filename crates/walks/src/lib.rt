@@ -3,7 +3,7 @@ ghost use Rattle.std.specs.Prelude.{◌≡◌};
 ghost use Rattle.model.specs.Ternary.{Tri};
 ghost use Rattle.model.specs.Verdict.{taken};
 ghost use Rattle.matching.specs.Sight.{rank};
-ghost use Rattle.walks.specs.Packets.{askingOf, tactic};
+ghost use Rattle.walks.specs.Packets.{asking_of, tactic};
 ghost use Rattle.walks.specs.Walks.{Ran, Acts, Keeping, HasChain, HasChains, HasRule, WalksRule, WalksChain, ChainsSay};
 ghost use Rattle.walks.specs.Lists.{Listing, ListSays};
 
@@ -37,7 +37,7 @@ pub enum Step {
 
 // All of the packet is known. `told`: the unread matches are, out of the answers.
 fn asking(p: Packet, told: bool) -> Asking
-    ensures { result ≡ askingOf p told }
+    ensures { result ≡ asking_of p told }
 {
     Asking {
         destination: p.destination,

@@ -4,17 +4,17 @@ use borrow.Author.Rules.{rules}
 use Rattle.calls.proofs.plus.Statement.{statement}
 use Rattle.calls.proofs.plus.Tie as tie
 
-add-s : tie.Need-overflow-add-s
-add-s c = search rules
+add_s : tie.Need-overflow-add-s
+add_s c = search rules
 
-add-s-2 : tie.Need-overflow-add-s-2
-add-s-2 c = search rules
+add_s_2 : tie.Need-overflow-add-s-2
+add_s_2 c = search rules
 
 returns : tie.Need-returns
 returns c = omega arith
 
-returns-2 : tie.Need-returns-2
-returns-2 c = omega arith
+returns_2 : tie.Need-returns-2
+returns_2 c = omega arith
 
-pub plus-spec : {M : Type 1} → statement M
-plus-spec = tie.close (tie.spec add-s add-s-2 returns returns-2)
+pub plus_spec : {M : Type 1} → statement M
+plus_spec = tie.close (tie.spec add_s add_s_2 returns returns_2)

@@ -45,8 +45,8 @@ use denote.Exit.{yes}
 use denote.Signature.{Slot, plain, named_lft}
 use Rattle.expressions.specs.declared.ExpressionRead.{ExpressionRead}
 use Rattle.reader.specs.declared.Reader.{Reader}
-use Rattle.reader.specs.Moved.{pastExpression, expressionFrom, moved_to}
-use Rattle.reader.proofs.Held.{R, D, L, bookVal, Own, Book, shares, again, typed}
+use Rattle.reader.specs.Moved.{past_expression, expression_from, moved_to}
+use Rattle.reader.proofs.Held.{R, D, L, book_val, Own, Book, shares, again, typed}
 use Rattle.reader.specs.contracts.Reader as T
 use Rattle.reader.proofs.Reader.TheLaws as T'
 use Rattle.expressions.specs.contracts.ExpressionRead as N
@@ -99,7 +99,7 @@ module _ {M : Type 1} {𝓤 : Ura M} (𝓛 : Logic 𝓤) (at_mem : Memory → SP
 
   -- the call of `read_expression`: what it is passed, what it asks, and what is known of its result
   abbrev passed : Vals read.signature (κ', tt)
-  passed = (bookVal 𝓛 κ' h ∷ [], (vint w64 h.at ∷ [], (vint w32 levels ∷ [], (vint w32 sources ∷ [], tt))))
+  passed = (book_val 𝓛 κ' h ∷ [], (vint w64 h.at ∷ [], (vint w32 levels ∷ [], (vint w32 sources ∷ [], tt))))
 
   abbrev Args : Type 0
   Args = Bor (List ℕ) × (ℕ × (ℕ × (ℕ × Unit {0})))
@@ -121,23 +121,23 @@ module _ {M : Type 1} {𝓤 : Ura M} (𝓛 : Logic 𝓤) (at_mem : Memory → SP
       nothing ! $ owned ! u32 (Is u32) (uint_Makes 𝓛 w32) sources _ (refl, s-fits) $ fjoin ! $ owned ! u32 (Is u32) (uint_Makes 𝓛 w32) levels _ (refl, l-fits) $ fjoin ! $ owned ! usize (Is usize) (uint_Makes 𝓛 w64) h.at _ (refl, fits) $ fjoin ! $ move ! (1 ∷ 0 ∷ []) $ fjoin ! $
       move ! (2 ∷ 0 ∷ []) $ use2 𝓛 (raw ((ReadExpression 𝓛 at_mem run).pre to_read)) asked $ frame ! $ done !
 
-  said : (n : ExpressionRead) → ent 𝓤 (ensured 𝓛 read.ended (read.clauses 𝓛 at_mem run) (κ', tt) args tt n) (fact 𝓤 ((rules : ℕ) → n ≡ expressionFrom levels sources rules h))
-  said n = ex_e 𝓤 _ (λ ws. snd∗ 𝓤 (sem 𝓛 (lasts read.ended (κ', tt) args ws)) (fact 𝓤 ((rules : ℕ) → n ≡ expressionFrom levels sources rules h)))
+  said : (n : ExpressionRead) → ent 𝓤 (ensured 𝓛 read.ended (read.clauses 𝓛 at_mem run) (κ', tt) args tt n) (fact 𝓤 ((rules : ℕ) → n ≡ expression_from levels sources rules h))
+  said n = ex_e 𝓤 _ (λ ws. snd∗ 𝓤 (sem 𝓛 (lasts read.ended (κ', tt) args ws)) (fact 𝓤 ((rules : ℕ) → n ≡ expression_from levels sources rules h)))
 
   -- the call of `past_expression`, at the answer n with the machine value u
-  abbrev to-past : ExpressionRead → Val → (PastExpression 𝓛 at_mem run).Ghost
-  to-past n u = ((tt, tt, tt, (n, (h.at, tt)), (u ∷ [], (vint w64 h.at ∷ [], tt))), tt)
+  abbrev to_past : ExpressionRead → Val → (PastExpression 𝓛 at_mem run).Ghost
+  to_past n u = ((tt, tt, tt, (n, (h.at, tt)), (u ∷ [], (vint w64 h.at ∷ [], tt))), tt)
 
-  goes-past : h.at < 2 ^ 64 → (n : ExpressionRead) (u : Val) → ent 𝓤 (sem 𝓛 ((N.the_row).own_val n (u ∷ []))) (sep 𝓤 ((PastExpression 𝓛 at_mem run).pre (to-past n u)) (sem 𝓛 ((N.the_row).own_val n (u ∷ []))))
-  goes-past fits n u =
+  goes_past : h.at < 2 ^ 64 → (n : ExpressionRead) (u : Val) → ent 𝓤 (sem 𝓛 ((N.the_row).own_val n (u ∷ []))) (sep 𝓤 ((PastExpression 𝓛 at_mem run).pre (to_past n u)) (sem 𝓛 ((N.the_row).own_val n (u ∷ []))))
+  goes_past fits n u =
       qed 𝓛 (‵ ((N.the_row).own_val n (u ∷ [])) ∷ []) ∵
       use1 𝓛 (‵ ((N.the_row).own_val n (u ∷ [])) ⊛ ‵ ((N.the_row).own_val n (u ∷ []))) ((EL.copy N.the_type N'.the_copy 𝓛).twice n (u ∷ [])) $ split ! $
       nothing ! $ owned ! usize (Is usize) (uint_Makes 𝓛 w64) h.at _ (refl, fits) $ fjoin ! $ move ! (1 ∷ 0 ∷ []) $ fjoin ! $ nothing ! $ join ! $ nothing ! $ move ! (1 ∷ 0 ∷ []) $ join ! $ frame ! $ done !
 
-  past-said : (n : ExpressionRead) (m : ℕ) → ent 𝓤 (ensured 𝓛 past.ended (past.clauses 𝓛 at_mem run) tt (n, (h.at, tt)) tt m) (fact 𝓤 (m ≡ pastExpression h.at n))
-  past-said n m = ex_e 𝓤 _ (λ ws. snd∗ 𝓤 (sem 𝓛 (lasts past.ended tt (n, (h.at, tt)) ws)) (fact 𝓤 (m ≡ pastExpression h.at n)))
+  past_said : (n : ExpressionRead) (m : ℕ) → ent 𝓤 (ensured 𝓛 past.ended (past.clauses 𝓛 at_mem run) tt (n, (h.at, tt)) tt m) (fact 𝓤 (m ≡ past_expression h.at n))
+  past_said n m = ex_e 𝓤 _ (λ ws. snd∗ 𝓤 (sem 𝓛 (lasts past.ended tt (n, (h.at, tt)) ws)) (fact 𝓤 (m ≡ past_expression h.at n)))
 
-  exits : (n : ExpressionRead) (u : Val) (m : ℕ) → ((rules : ℕ) → n ≡ expressionFrom levels sources rules h) → m ≡ pastExpression h.at n
+  exits : (n : ExpressionRead) (u : Val) (m : ℕ) → ((rules : ℕ) → n ≡ expression_from levels sources rules h) → m ≡ past_expression h.at n
       → ent 𝓤 (⋆ 𝓛 (‵ (fobs γ (Rd.coded.code (moved_to h m))) ∷ ‵ (fbor κ (Body (mem Rd) b o γ)) ∷ ‵ (flft κ q) ∷ (‵ (flft κ' q') ⊛ ‵ ftrue) ∷ ‵ ((N.the_row).own_val n (u ∷ [])) ∷ [])) (Post u)
   exits n u m e e' =
       qed 𝓛 (‵ (fobs γ (Rd.coded.code (moved_to h m))) ∷ ‵ (fbor κ (Body (mem Rd) b o γ)) ∷ ‵ (flft κ q) ∷ (‵ (flft κ' q') ⊛ ‵ ftrue) ∷ ‵ ((N.the_row).own_val n (u ∷ [])) ∷ []) ∵
@@ -161,15 +161,15 @@ module _ {M : Type 1} {𝓤 : Ura M} (𝓛 : Logic 𝓤) (at_mem : Memory → SP
         move ! (5 ∷ 1 ∷ []) $ use2 𝓛 (raw ((ReadExpression 𝓛 at_mem run).pre to_read) ⊛ ‵ Kept) (apart (typed 𝓛 κ' h was).1.1.0.fits) $ split ! $
         calls_at ! fm (ReadExpression 𝓛 at_mem run) known_read to_read (and_then ! (load ! (from ! (stop !)) (look ! 8 refl)) (and_then ! (load ! (from ! (stop !)) (look ! 12 refl)) (and_then ! (load ! (from ! (stop !)) (look ! 16 refl)) (and_then ! (load ! (from ! (stop !)) (look ! 14 refl)) (no_more !))))) (λ u.
         use1 𝓛 (later (some (λ (n : ExpressionRead). ((‵ (flft κ' q') ⊛ ‵ ftrue) ⊛ ‵ ((N.the_row).own_val n (u ∷ []))) ⊛ raw (ensured 𝓛 read.ended (read.clauses 𝓛 at_mem run) (κ', tt) args tt n)))) (id⊢ 𝓤 _) $ await ! tt $ pick ! (λ n.
-        split ! $ move ! (1 ∷ []) $ use1 𝓛 (raw (fact 𝓤 ((rules : ℕ) → n ≡ expressionFrom levels sources rules h))) (said n) $ heard ! ((rules : ℕ) → n ≡ expressionFrom levels sources rules h) (λ e. split ! $ move ! (1 ∷ []) $
+        split ! $ move ! (1 ∷ []) $ use1 𝓛 (raw (fact 𝓤 ((rules : ℕ) → n ≡ expression_from levels sources rules h))) (said n) $ heard ! ((rules : ℕ) → n ≡ expression_from levels sources rules h) (λ e. split ! $ move ! (1 ∷ []) $
         -- [the answer; 'a's token; what the Reader owns; the struct's cell; the open borrow; obs; auth; _7; …; _6; …; _5; …; _4; …; _3; …; _2; …; _1; …; room for _0; …]
         peeks ! N.the_row (Is N.the_row) (shows 𝓛 N.the_row) n (u ∷ []) (λ is.
         land ! (from ! (stop !)) (init ! 11 refl ((EL.lawful N.the_type N'.the_laws 𝓛 tt).typed n _ is).0) $
         -- `past_expression`
-        use1 𝓛 (raw ((PastExpression 𝓛 at_mem run).pre (to-past n u)) ⊛ ‵ ((N.the_row).own_val n (u ∷ []))) (goes-past (typed 𝓛 κ' h was).1.1.0.fits n u) $ split ! $
-        calls_at ! fm (PastExpression 𝓛 at_mem run) known_past (to-past n u) (and_then ! (load ! (from ! (stop !)) (look ! 12 refl)) (and_then ! (load ! (from ! (stop !)) (look ! 14 refl)) (no_more !))) (λ w.
+        use1 𝓛 (raw ((PastExpression 𝓛 at_mem run).pre (to_past n u)) ⊛ ‵ ((N.the_row).own_val n (u ∷ []))) (goes_past (typed 𝓛 κ' h was).1.1.0.fits n u) $ split ! $
+        calls_at ! fm (PastExpression 𝓛 at_mem run) known_past (to_past n u) (and_then ! (load ! (from ! (stop !)) (look ! 12 refl)) (and_then ! (load ! (from ! (stop !)) (look ! 14 refl)) (no_more !))) (λ w.
         use1 𝓛 (later (some (λ (m : ℕ). (‵ ftrue ⊛ ‵ (usize.own_val m (w ∷ []))) ⊛ raw (ensured 𝓛 past.ended (past.clauses 𝓛 at_mem run) tt (n, (h.at, tt)) tt m)))) (id⊢ 𝓤 _) $ await ! tt $ pick ! (λ m.
-        split ! $ move ! (1 ∷ []) $ use1 𝓛 (raw (fact 𝓤 (m ≡ pastExpression h.at n))) (past-said n m) $ heard ! (m ≡ pastExpression h.at n) (λ e'. split ! $ drop ! $
+        split ! $ move ! (1 ∷ []) $ use1 𝓛 (raw (fact 𝓤 (m ≡ past_expression h.at n))) (past_said n m) $ heard ! (m ≡ past_expression h.at n) (λ e'. split ! $ drop ! $
         peeks ! usize (Is usize) (shows 𝓛 usize) m (w ∷ []) (λ is'.
         land ! (from ! (stop !)) (init ! 8 refl ((uint_Lawful 𝓛 w64).typed m _ is').0) $ rewrite ! 8 (λ (y : Val). ‵ (fat full_share (ty_int w64) l₇ 0 y)) (ap only is'.0) refl $ drop ! $
         -- [the answer; 'a's token; what the Reader owns; the struct's cell; the open borrow; obs; auth; _7; …; _6; …; _5; …; _4; …; _3; …; _2; …; _1; …; room for _0; …]
@@ -186,22 +186,22 @@ module _ {M : Type 1} {𝓤 : Ura M} (𝓛 : Logic 𝓤) (at_mem : Memory → SP
 module _ {M : Type 1} {𝓤 : Ura M} (𝓛 : Logic 𝓤) (mem : Memory → SProp 𝓤) (run : Routine → Fun 𝓤) where
   open 𝓛 use {H}
 
-  next-expression-walks : (C : Calls 𝓤 H) (Λ : Loops 𝓤 H) → FmC 𝓤 H 𝓛.laws C → Triple 𝓤 (C #expressions·read-expression) (ReadExpression 𝓛 mem run) → Triple 𝓤 (C #reader·past-expression) (PastExpression 𝓛 mem run)
+  next_expression_walks : (C : Calls 𝓤 H) (Λ : Loops 𝓤 H) → FmC 𝓤 H 𝓛.laws C → Triple 𝓤 (C #expressions·read-expression) (ReadExpression 𝓛 mem run) → Triple 𝓤 (C #reader·past-expression) (PastExpression 𝓛 mem run)
       → Walks 𝓛 next-expression.ended stayed (WpFn 𝓤 H C Λ code.function) (next-expression.clauses 𝓛 mem run)
-  next-expression-walks C Λ fm known_read known_past = walked 𝓛 next-expression.ended stayed (next-expression.clauses 𝓛 mem run) (WpFn 𝓤 H C Λ code.function) (λ κs. (mut_vals, (uint_vals w32, (uint_vals w32, tt)))) (λ κs. (mut_Tells (named 0) κs.0 (T.the_row (named_lft 2 1 tt κs)), (uint_Tells w32, (uint_Tells w32, tt))))
+  next_expression_walks C Λ fm known_read known_past = walked 𝓛 next-expression.ended stayed (next-expression.clauses 𝓛 mem run) (WpFn 𝓤 H C Λ code.function) (λ κs. (mut_vals, (uint_vals w32, (uint_vals w32, tt)))) (λ κs. (mut_Tells (named 0) κs.0 (T.the_row (named_lft 2 1 tt κs)), (uint_Tells w32, (uint_Tells w32, tt))))
       (λ κs qs bounds a g are. via 𝓤 _ (fst∗ 𝓤 _ (emp 𝓤)) (walk 𝓛 mem run κs.0 κs.1.0 qs.0 qs.1.0 bounds a.0.ref_ptr.0 a.0.ref_ptr.1 a.0.ghost_name a.0.now a.1.0 a.1.1.0 are.1.0.1 are.1.1.0.1 C Λ fm known_read known_past))
 
-next-expression-meets : {M : Type 1} {𝓤 : Ura M} (𝓛 : Logic 𝓤) → (mem : Memory → SProp 𝓤) (run : Routine → Fun 𝓤) (𝓣 : Tables 𝓤 𝓛.H)
+next_expression_meets : {M : Type 1} {𝓤 : Ura M} (𝓛 : Logic 𝓤) → (mem : Memory → SProp 𝓤) (run : Routine → Fun 𝓤) (𝓣 : Tables 𝓤 𝓛.H)
     → Triple 𝓤 (𝓣.C #expressions·read-expression) (ReadExpression 𝓛 mem run) → Triple 𝓤 (𝓣.C #reader·past-expression) (PastExpression 𝓛 mem run)
     → Meets 𝓛 next-expression.signature (WpFn 𝓤 𝓛.H 𝓣.C 𝓣.Λ code.function) (next-expression.spec 𝓛 mem run)
-next-expression-meets {𝓤 = 𝓤} 𝓛 mem run 𝓣 known_read known_past = walk_Meets 𝓛 next-expression.ended stayed (Goes-ref 𝓛 2 0 tt behind, (Goes-none 𝓛 2 (λ _. u32) yes (λ κs y f. refl), (Goes-none 𝓛 2 (λ _. u32) yes (λ κs y f. refl), tt))) (next-expression.clauses 𝓛 mem run) (WpFn 𝓤 𝓛.H 𝓣.C 𝓣.Λ code.function) (WpFn-mono 𝓤 𝓛.H 𝓛.laws 𝓣 code.function)
-    (next-expression-walks 𝓛 mem run 𝓣.C 𝓣.Λ (fm_of 𝓤 𝓛.H 𝓛.laws 𝓣) known_read known_past)
+next_expression_meets {𝓤 = 𝓤} 𝓛 mem run 𝓣 known_read known_past = walk_Meets 𝓛 next-expression.ended stayed (Goes-ref 𝓛 2 0 tt behind, (Goes-none 𝓛 2 (λ _. u32) yes (λ κs y f. refl), (Goes-none 𝓛 2 (λ _. u32) yes (λ κs y f. refl), tt))) (next-expression.clauses 𝓛 mem run) (WpFn 𝓤 𝓛.H 𝓣.C 𝓣.Λ code.function) (WpFn-mono 𝓤 𝓛.H 𝓛.laws 𝓣 code.function)
+    (next_expression_walks 𝓛 mem run 𝓣.C 𝓣.Λ (fm_of 𝓤 𝓛.H 𝓛.laws 𝓣) known_read known_past)
 
-pub next-expression-spec : {M : Type 1} → stated.statement M
+pub next_expression_spec : {M : Type 1} → stated.statement M
 unfolding code.routine tables_of
-next-expression-spec 𝓤 𝓛 𝓜 𝓡 =
+next_expression_spec 𝓤 𝓛 𝓜 𝓡 =
     entered 𝓤 𝓛.H (triple_of 𝓛 next-expression.signature (next-expression.spec 𝓛 𝓜.mem 𝓡.run))
     (tables 𝓤 𝓛.H 𝓜 𝓡 code.env).C (tables 𝓤 𝓛.H 𝓜 𝓡 code.env).Λ #reader·next-expression code.function (code.unfolded 𝓤 𝓛.H 𝓜 𝓡)
-    (next-expression-meets 𝓛 𝓜.mem 𝓡.run (tables_of 𝓤 𝓛.H 𝓜 (tables 𝓤 𝓛.H 𝓜 𝓡 code.env))
+    (next_expression_meets 𝓛 𝓜.mem 𝓡.run (tables_of 𝓤 𝓛.H 𝓜 (tables 𝓤 𝓛.H 𝓜 𝓡 code.env))
     (cited 𝓤 𝓛.H (ReadExpression 𝓛 𝓜.mem 𝓡.run) 𝓜 𝓡 code.env #expressions·read-expression read-def.routine code.calls-expressions::read-expression (read-thm.met 𝓤 𝓛 𝓜 𝓡))
     (cited 𝓤 𝓛.H (PastExpression 𝓛 𝓜.mem 𝓡.run) 𝓜 𝓡 code.env #reader·past-expression past-def.routine code.calls-reader::past-expression (past-thm.met 𝓤 𝓛 𝓜 𝓡)))

@@ -13,23 +13,23 @@ use Rattle.reader.proofs.part_from.Tie as tie
 all_left : (at : ℕ) (s : List ℕ) → take (length s - at) (drop at s) ≡ drop at s
 all_left at s = ap (λ (k : ℕ). take k (drop at s)) (sym (length-drop at s)) ∙ take-length (drop at s)
 
-sub-result : tie.Need-overflow-sub-result
-sub-result c = search rules
+sub_result : tie.Need-overflow-sub-result
+sub_result c = search rules
 
-part-result-start : tie.Need-slice-bounds-result-start
-part-result-start c = search rules
+part_result_start : tie.Need-slice-bounds-result-start
+part_result_start c = search rules
 
-part-result-end : tie.Need-slice-bounds-result-end
-part-result-end c = search rules
+part_result_end : tie.Need-slice-bounds-result-end
+part_result_end c = search rules
 
-slice-aggregate-result : tie.Need-slice-aggregate-result
-slice-aggregate-result c = search rules
+slice_aggregate_result : tie.Need-slice-aggregate-result
+slice_aggregate_result c = search rules
 
 returns : tie.Need-returns
 returns c = all_left c.before.before.args.at c.before.before.args.s.now
 
-returns-2 : tie.Need-returns-2
-returns-2 c = sym (drop_of_length-le c.before.before.args.s.now {i = c.before.before.args.at} (omega (arith, c.before.if1.false)))
+returns_2 : tie.Need-returns-2
+returns_2 c = sym (drop_of_length-le c.before.before.args.s.now {i = c.before.before.args.at} (omega (arith, c.before.if1.false)))
 
-pub part-from-spec : {M : Type 1} → statement M
-part-from-spec = tie.close (tie.spec sub-result part-result-start part-result-end slice-aggregate-result returns returns-2)
+pub part_from_spec : {M : Type 1} → statement M
+part_from_spec = tie.close (tie.spec sub_result part_result_start part_result_end slice_aggregate_result returns returns_2)

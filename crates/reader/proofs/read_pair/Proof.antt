@@ -46,10 +46,10 @@ use Rattle.numbers.specs.declared.NumberRead.{NumberRead}
 use Rattle.expressions.specs.declared.ExpressionRead.{ExpressionRead}
 use Rattle.reader.specs.declared.Reader.{Reader}
 use Rattle.reader.specs.declared.Pair.{Pair}
-use Rattle.reader.specs.Moved.{numberTold, numberFrom, expressionFrom, afterNumber, afterExpression}
+use Rattle.reader.specs.Moved.{number_told, number_from, expression_from, after_number, after_expression}
 use Rattle.reader.proofs.Held.{R, D, L, Own, again}
-use Rattle.reader.proofs.Lent.{Cell, Passed, Loan, goes-out, comes_back}
-use Rattle.reader.proofs.Asked.{NextNumber, to_number, goes_number, NumberSaid, number-said, NextExpression, to-expression, goes-expression, ExpressionSaid, expression-said}
+use Rattle.reader.proofs.Lent.{Cell, Passed, Loan, goes_out, comes_back}
+use Rattle.reader.proofs.Asked.{NextNumber, to_number, goes_number, NumberSaid, number_said, NextExpression, to_expression, goes_expression, ExpressionSaid, expression_said}
 use Rattle.reader.specs.contracts.Reader as T
 use Rattle.reader.proofs.Reader.TheLaws as T'
 use Rattle.reader.specs.contracts.Pair as P
@@ -108,10 +108,10 @@ module _ {M : Type 1} {𝓤 : Ura M} (𝓛 : Logic 𝓤) (at_mem : Memory → SP
   h m = record { book = s; at = m }
 
   abbrev h₁ : NumberRead → Reader
-  h₁ a = afterNumber (h n) a
+  h₁ a = after_number (h n) a
 
   abbrev h₂ : NumberRead → ExpressionRead → Reader
-  h₂ a e = afterExpression (h₁ a) e
+  h₂ a e = after_expression (h₁ a) e
 
   abbrev Book : Fml
   Book = (ShrSlice (named 0) κ u8).own_val s (v ∷ [])
@@ -127,14 +127,14 @@ module _ {M : Type 1} {𝓤 : Ura M} (𝓛 : Logic 𝓤) (at_mem : Memory → SP
   abbrev to_start : (Start 𝓛 at_mem run).Ghost
   to_start = (((κ, tt), (q, tt), tt, (s, tt), (v ∷ [], tt)), tt)
 
-  goes-start : ent 𝓤 (on_entry 𝓛 read-pair.signature (κ, tt) (q, tt) args vals) (sep 𝓤 ((Start 𝓛 at_mem run).pre to_start) (sem 𝓛 Book))
-  goes-start =
+  goes_start : ent 𝓤 (on_entry 𝓛 read-pair.signature (κ, tt) (q, tt) args vals) (sep 𝓤 ((Start 𝓛 at_mem run).pre to_start) (sem 𝓛 Book))
+  goes_start =
       qed 𝓛 ((‵ (flft κ q) ⊛ ‵ ftrue) ∷ ‵ (owns (ShrSlice (named 0) κ u8 ∷ usize ∷ u32 ∷ u32 ∷ []) args vals) ∷ []) ∵
       move ! (1 ∷ []) $ fsplit ! $ move ! (1 ∷ []) $ drop ! $ use1 𝓛 (‵ Book ⊛ ‵ Book) ((shr_slice_copy 𝓛 (named 0) κ u8).twice s (v ∷ [])) $ split ! $
       nothing ! $ move ! (1 ∷ 0 ∷ []) $ fjoin ! $ move ! (2 ∷ 0 ∷ []) $ use2 𝓛 (raw ((Start 𝓛 at_mem run).pre to_start)) (qed 𝓛 ((‵ (flft κ q) ⊛ ‵ ftrue) ∷ ‵ (owns (ShrSlice (named 0) κ u8 ∷ []) (s, tt) (v ∷ [], tt)) ∷ []) ∵ join ! $ frame ! $ done !) $ frame ! $ done !
 
-  start-said : (r : Reader) → ent 𝓤 (ensured 𝓛 start.ended (start.clauses 𝓛 at_mem run) (κ, tt) (s, tt) tt r) (fact 𝓤 ((r.book ≡ s) × (r.at ≡ 0)))
-  start-said r = ex_e 𝓤 _ (λ ws. snd∗ 𝓤 (sem 𝓛 (lasts start.ended (κ, tt) (s, tt) ws)) (fact 𝓤 ((r.book ≡ s) × (r.at ≡ 0))))
+  start_said : (r : Reader) → ent 𝓤 (ensured 𝓛 start.ended (start.clauses 𝓛 at_mem run) (κ, tt) (s, tt) tt r) (fact 𝓤 ((r.book ≡ s) × (r.at ≡ 0)))
+  start_said r = ex_e 𝓤 _ (λ ws. snd∗ 𝓤 (sem 𝓛 (lasts start.ended (κ, tt) (s, tt) ws)) (fact 𝓤 ((r.book ≡ s) × (r.at ≡ 0))))
 
   -- the pair that is handed back: its machine value, and what its fields own
   abbrev found : NumberRead → ExpressionRead → Pair
@@ -148,10 +148,10 @@ module _ {M : Type 1} {𝓤 : Ura M} (𝓛 : Logic 𝓤) (at_mem : Memory → SP
 
   -- what is known of the two answers
   abbrev Numbered : NumberRead → Type 0
-  Numbered a = numberTold a ≡ numberFrom (h n)
+  Numbered a = number_told a ≡ number_from (h n)
 
   abbrev Expressed : NumberRead → ExpressionRead → Type 0
-  Expressed a e = (rules : ℕ) → e ≡ expressionFrom levels sources rules (h₁ a)
+  Expressed a e = (rules : ℕ) → e ≡ expression_from levels sources rules (h₁ a)
 
   exits : (a : NumberRead) (e : ExpressionRead) (u : Val) → Numbered a → Expressed a e
       → ent 𝓤 (⋆ 𝓛 (‵ (flft κ q) ∷ ‵ ((P.the_row).own_val (found a e) (u ∷ [])) ∷ ‵ Book ∷ [])) (Post u)
@@ -184,10 +184,10 @@ module _ {M : Type 1} {𝓤 : Ura M} (𝓛 : Logic 𝓤) (at_mem : Memory → SP
         alloc1 ! (λ l₀. alloc1 ! (λ l₁. alloc1 ! (λ l₂. alloc1 ! (λ l₃. alloc1 ! (λ l₄. alloc1 ! (λ l₅. alloc1 ! (λ l₆. alloc1 ! (λ l₇. alloc1 ! (λ l₈. alloc1 ! (λ l₉. alloc1 ! (λ l₁₀. alloc1 ! (λ l₁₁. alloc0 ! $ params1 ! $
         pass1 ! (init ! 20 refl ((shr_slice_Lawful 𝓛 (named 0) κ u8).typed s (v ∷ []) p).0) $ pass1 ! (init ! 18 refl (tt, record { fits = n-fits })) $ pass1 ! (init ! 16 refl (tt, record { fits = l-fits })) $ pass1 ! (init ! 14 refl (tt, record { fits = s-fits })) $ pass0 ! $
         -- `start`
-        move ! (24 ∷ []) $ use1 𝓛 (raw ((Start 𝓛 at_mem run).pre to_start) ⊛ ‵ Book) goes-start $ split ! $
+        move ! (24 ∷ []) $ use1 𝓛 (raw ((Start 𝓛 at_mem run).pre to_start) ⊛ ‵ Book) goes_start $ split ! $
         calls_at ! fm (Start 𝓛 at_mem run) Known-start to_start (and_then ! (load ! (from ! (stop !)) (look ! 22 refl)) (no_more !)) (λ u.
         use1 𝓛 (later (some (λ (r : Reader). ((‵ (flft κ q) ⊛ ‵ ftrue) ⊛ ‵ (Rd.own r (u ∷ []))) ⊛ raw (ensured 𝓛 start.ended (start.clauses 𝓛 at_mem run) (κ, tt) (s, tt) tt r)))) (id⊢ 𝓤 _) $ await ! tt $ pick ! (λ r.
-        split ! $ move ! (1 ∷ []) $ use1 𝓛 (raw (fact 𝓤 ((r.book ≡ s) × (r.at ≡ 0)))) (start-said r) $ heard ! ((r.book ≡ s) × (r.at ≡ 0)) (λ e.
+        split ! $ move ! (1 ∷ []) $ use1 𝓛 (raw (fact 𝓤 ((r.book ≡ s) × (r.at ≡ 0)))) (start_said r) $ heard ! ((r.book ≡ s) × (r.at ≡ 0)) (λ e.
         split ! $ rewrite ! 1 (λ (d : Reader). ‵ (Rd.own d (u ∷ []))) (λ i. record { book = e.0 i; at = e.1 i }) refl $ move ! (1 ∷ []) $
         -- [what the reader owns; the token; what the book owns; _11; …; _10; …; _9; …; _8; …; _7; …; _6; …; _5; …; _4; …; _3; …; _2; …; _1; …; room for _0; …]
         peeks ! Rd (Is Rd) (shows 𝓛 Rd) (h 0) (u ∷ []) (λ is.
@@ -200,12 +200,12 @@ module _ {M : Type 1} {𝓤 : Ura M} (𝓛 : Logic 𝓤) (at_mem : Memory → SP
         assigns ! (addr ! (from ! (stop !))) (from ! (stop !)) (init ! 7 refl (tt, tt)) $
         -- it is lent to `next_number`
         move ! (1 ∷ []) $ split ! $ move ! (1 ∷ []) $ drop ! $ move ! (0 ∷ 15 ∷ 1 ∷ []) $
-        use3 𝓛 (later (some (λ (ν : ℕ). some (λ (δ : GName). raw (Passed 𝓛 κ q l₅ ν (h n) δ) ⊛ raw (Loan 𝓛 κ q l₅ ν δ))))) (goes-out 𝓛 κ q l₅ (h n)) $ await ! tt $ pick ! (λ ν. pick ! (λ δ. split ! $
+        use3 𝓛 (later (some (λ (ν : ℕ). some (λ (δ : GName). raw (Passed 𝓛 κ q l₅ ν (h n) δ) ⊛ raw (Loan 𝓛 κ q l₅ ν δ))))) (goes_out 𝓛 κ q l₅ (h n)) $ await ! tt $ pick ! (λ ν. pick ! (λ δ. split ! $
         use1 𝓛 (raw ((NextNumber 𝓛 at_mem run).pre (to_number 𝓛 at_mem run κ q l₅ (h n) ν δ))) (goes_number 𝓛 at_mem run κ q l₅ (h n) ν δ) $
         -- [what the call asks; the loan; what the book owns; _11; …; _10; …; _9; …; _8; …; _7; …; _6; …; what _5 ends with; _4; …; _3; …; _2; …; _1; …; room for _0; …]
         calls_at ! fm (NextNumber 𝓛 at_mem run) known-number (to_number 𝓛 at_mem run κ q l₅ (h n) ν δ) (and_then ! (load ! (from ! (stop !)) (look ! 7 refl)) (no_more !)) (λ u₁.
         use1 𝓛 (later (some (λ (a : NumberRead). ((‵ (flft (ν ∷ κ) ql) ⊛ ‵ (flft κ qr) ⊛ ‵ ftrue) ⊛ ‵ ((N.the_row).own_val a (u₁ ∷ []))) ⊛ raw (NumberSaid 𝓛 at_mem run κ q l₅ (h n) ν δ a)))) (id⊢ 𝓤 _) $ await ! tt $ pick ! (λ a.
-        split ! $ move ! (1 ∷ []) $ use1 𝓛 (‵ (fres δ (Rd.coded.code (h₁ a))) ⊛ raw (fact 𝓤 (Numbered a))) (number-said 𝓛 at_mem run κ q l₅ (h n) ν δ a) $ split ! $ move ! (1 ∷ []) $ heard ! (Numbered a) (λ e₁.
+        split ! $ move ! (1 ∷ []) $ use1 𝓛 (‵ (fres δ (Rd.coded.code (h₁ a))) ⊛ raw (fact 𝓤 (Numbered a))) (number_said 𝓛 at_mem run κ q l₅ (h n) ν δ a) $ split ! $ move ! (1 ∷ []) $ heard ! (Numbered a) (λ e₁.
         move ! (1 ∷ []) $ split ! $ move ! (1 ∷ []) $ peeks ! N.the_row (Is N.the_row) (shows 𝓛 N.the_row) a (u₁ ∷ []) (λ is₁.
         land ! (from ! (stop !)) (init ! 15 refl ((EL.lawful N.the_type N'.the_laws 𝓛 tt).typed a _ is₁).0) $
         -- it comes back past the number
@@ -213,12 +213,12 @@ module _ {M : Type 1} {𝓤 : Ura M} (𝓛 : Logic 𝓤) (at_mem : Memory → SP
         -- [the token; _5; what the reader owns; the number; what the book owns; _11; …; _10; …; _9; …; _8; …; _7; …; _6; …; what _5 ends with; _4; …; _3; …; _2; …; _1; …; room for _0; …]
         assigns ! (addr ! (from ! (stop !))) (from ! (stop !)) (init ! 7 refl (tt, tt)) $
         -- it is lent to `next_expression`
-        use3 𝓛 (later (some (λ (ν' : ℕ). some (λ (δ' : GName). raw (Passed 𝓛 κ q l₅ ν' (h₁ a) δ') ⊛ raw (Loan 𝓛 κ q l₅ ν' δ'))))) (goes-out 𝓛 κ q l₅ (h₁ a)) $ await ! tt $ pick ! (λ ν'. pick ! (λ δ'. split ! $
-        use1 𝓛 (raw ((NextExpression 𝓛 at_mem run).pre (to-expression 𝓛 at_mem run κ q l₅ (h₁ a) ν' δ' levels sources))) (goes-expression 𝓛 at_mem run κ q l₅ (h₁ a) ν' δ' levels sources l-fits s-fits) $
+        use3 𝓛 (later (some (λ (ν' : ℕ). some (λ (δ' : GName). raw (Passed 𝓛 κ q l₅ ν' (h₁ a) δ') ⊛ raw (Loan 𝓛 κ q l₅ ν' δ'))))) (goes_out 𝓛 κ q l₅ (h₁ a)) $ await ! tt $ pick ! (λ ν'. pick ! (λ δ'. split ! $
+        use1 𝓛 (raw ((NextExpression 𝓛 at_mem run).pre (to_expression 𝓛 at_mem run κ q l₅ (h₁ a) ν' δ' levels sources))) (goes_expression 𝓛 at_mem run κ q l₅ (h₁ a) ν' δ' levels sources l-fits s-fits) $
         -- [what the call asks; the loan; the number; what the book owns; _11; …; _10; …; _9; …; _8; …; _7; …; _6; …; what _5 ends with; _4; …; _3; …; _2; …; _1; …; room for _0; …]
-        calls_at ! fm (NextExpression 𝓛 at_mem run) known-expression (to-expression 𝓛 at_mem run κ q l₅ (h₁ a) ν' δ' levels sources) (and_then ! (load ! (from ! (stop !)) (look ! 6 refl)) (and_then ! (load ! (from ! (stop !)) (look ! 19 refl)) (and_then ! (load ! (from ! (stop !)) (look ! 17 refl)) (no_more !)))) (λ u₂.
+        calls_at ! fm (NextExpression 𝓛 at_mem run) known-expression (to_expression 𝓛 at_mem run κ q l₅ (h₁ a) ν' δ' levels sources) (and_then ! (load ! (from ! (stop !)) (look ! 6 refl)) (and_then ! (load ! (from ! (stop !)) (look ! 19 refl)) (and_then ! (load ! (from ! (stop !)) (look ! 17 refl)) (no_more !)))) (λ u₂.
         use1 𝓛 (later (some (λ (b : ExpressionRead). ((‵ (flft (ν' ∷ κ) ql) ⊛ ‵ (flft κ qr) ⊛ ‵ ftrue) ⊛ ‵ ((E.the_row).own_val b (u₂ ∷ []))) ⊛ raw (ExpressionSaid 𝓛 at_mem run κ q l₅ (h₁ a) ν' δ' levels sources b)))) (id⊢ 𝓤 _) $ await ! tt $ pick ! (λ b.
-        split ! $ move ! (1 ∷ []) $ use1 𝓛 (‵ (fres δ' (Rd.coded.code (h₂ a b))) ⊛ raw (fact 𝓤 (Expressed a b))) (expression-said 𝓛 at_mem run κ q l₅ (h₁ a) ν' δ' levels sources b) $ split ! $ move ! (1 ∷ []) $ heard ! (Expressed a b) (λ e₂.
+        split ! $ move ! (1 ∷ []) $ use1 𝓛 (‵ (fres δ' (Rd.coded.code (h₂ a b))) ⊛ raw (fact 𝓤 (Expressed a b))) (expression_said 𝓛 at_mem run κ q l₅ (h₁ a) ν' δ' levels sources b) $ split ! $ move ! (1 ∷ []) $ heard ! (Expressed a b) (λ e₂.
         move ! (1 ∷ []) $ split ! $ move ! (1 ∷ []) $ peeks ! E.the_row (Is E.the_row) (shows 𝓛 E.the_row) b (u₂ ∷ []) (λ is₂.
         land ! (from ! (stop !)) (init ! 14 refl ((EL.lawful E.the_type E'.the_laws 𝓛 tt).typed b _ is₂).0) $
         -- it comes back past the expression
@@ -240,26 +240,26 @@ module _ {M : Type 1} {𝓤 : Ura M} (𝓛 : Logic 𝓤) (at_mem : Memory → SP
 module _ {M : Type 1} {𝓤 : Ura M} (𝓛 : Logic 𝓤) (mem : Memory → SProp 𝓤) (run : Routine → Fun 𝓤) where
   open 𝓛 use {H}
 
-  read-pair-walks : (C : Calls 𝓤 H) (Λ : Loops 𝓤 H) → FmC 𝓤 H 𝓛.laws C → Triple 𝓤 (C #reader·start) (Start 𝓛 mem run) → Triple 𝓤 (C #reader·next-number) (NextNumber 𝓛 mem run) → Triple 𝓤 (C #reader·next-expression) (NextExpression 𝓛 mem run)
+  read_pair_walks : (C : Calls 𝓤 H) (Λ : Loops 𝓤 H) → FmC 𝓤 H 𝓛.laws C → Triple 𝓤 (C #reader·start) (Start 𝓛 mem run) → Triple 𝓤 (C #reader·next-number) (NextNumber 𝓛 mem run) → Triple 𝓤 (C #reader·next-expression) (NextExpression 𝓛 mem run)
       → Walks 𝓛 read-pair.ended stayed (WpFn 𝓤 H C Λ code.function) (read-pair.clauses 𝓛 mem run)
-  read-pair-walks C Λ fm Known-start known-number known-expression = walked 𝓛 read-pair.ended stayed (read-pair.clauses 𝓛 mem run) (WpFn 𝓤 H C Λ code.function)
+  read_pair_walks C Λ fm Known-start known-number known-expression = walked 𝓛 read-pair.ended stayed (read-pair.clauses 𝓛 mem run) (WpFn 𝓤 H C Λ code.function)
       (λ κs. (shr_slice_vals, (uint_vals w64, (uint_vals w32, (uint_vals w32, tt))))) (λ κs. (shr_slice_Tells (named 0) κs.0 u8, (uint_Tells w64, (uint_Tells w32, (uint_Tells w32, tt)))))
       (λ κs qs bounds a g are. via 𝓤 _ (fst∗ 𝓤 _ (emp 𝓤)) (walk 𝓛 mem run κs.0 qs.0 a.0 a.1.0 a.1.1.0 a.1.1.1.0 are.1.0.1 are.1.1.0.1 are.1.1.1.0.1 C Λ fm Known-start known-number known-expression are.0))
 
-read-pair-meets : {M : Type 1} {𝓤 : Ura M} (𝓛 : Logic 𝓤) → (mem : Memory → SProp 𝓤) (run : Routine → Fun 𝓤) (𝓣 : Tables 𝓤 𝓛.H)
+read_pair_meets : {M : Type 1} {𝓤 : Ura M} (𝓛 : Logic 𝓤) → (mem : Memory → SProp 𝓤) (run : Routine → Fun 𝓤) (𝓣 : Tables 𝓤 𝓛.H)
     → Triple 𝓤 (𝓣.C #reader·start) (Start 𝓛 mem run) → Triple 𝓤 (𝓣.C #reader·next-number) (NextNumber 𝓛 mem run) → Triple 𝓤 (𝓣.C #reader·next-expression) (NextExpression 𝓛 mem run)
     → Meets 𝓛 read-pair.signature (WpFn 𝓤 𝓛.H 𝓣.C 𝓣.Λ code.function) (read-pair.spec 𝓛 mem run)
-read-pair-meets {𝓤 = 𝓤} 𝓛 mem run 𝓣 Known-start known-number known-expression =
+read_pair_meets {𝓤 = 𝓤} 𝓛 mem run 𝓣 Known-start known-number known-expression =
     walk_Meets 𝓛 read-pair.ended stayed
     (Goes-none_slice 𝓛 1 (0 ∷ []) tt (plain (λ _. u8)) yes, (Goes-none 𝓛 1 (λ _. usize) yes (λ κs y f. refl), (Goes-none 𝓛 1 (λ _. u32) yes (λ κs y f. refl), (Goes-none 𝓛 1 (λ _. u32) yes (λ κs y f. refl), tt))))
-    (read-pair.clauses 𝓛 mem run) (WpFn 𝓤 𝓛.H 𝓣.C 𝓣.Λ code.function) (WpFn-mono 𝓤 𝓛.H 𝓛.laws 𝓣 code.function) (read-pair-walks 𝓛 mem run 𝓣.C 𝓣.Λ (fm_of 𝓤 𝓛.H 𝓛.laws 𝓣) Known-start known-number known-expression)
+    (read-pair.clauses 𝓛 mem run) (WpFn 𝓤 𝓛.H 𝓣.C 𝓣.Λ code.function) (WpFn-mono 𝓤 𝓛.H 𝓛.laws 𝓣 code.function) (read_pair_walks 𝓛 mem run 𝓣.C 𝓣.Λ (fm_of 𝓤 𝓛.H 𝓛.laws 𝓣) Known-start known-number known-expression)
 
-pub read-pair-spec : {M : Type 1} → stated.statement M
+pub read_pair_spec : {M : Type 1} → stated.statement M
 unfolding code.routine tables_of
-read-pair-spec 𝓤 𝓛 𝓜 𝓡 =
+read_pair_spec 𝓤 𝓛 𝓜 𝓡 =
     entered 𝓤 𝓛.H (triple_of 𝓛 read-pair.signature (read-pair.spec 𝓛 𝓜.mem 𝓡.run))
     (tables 𝓤 𝓛.H 𝓜 𝓡 code.env).C (tables 𝓤 𝓛.H 𝓜 𝓡 code.env).Λ #reader·read-pair code.function (code.unfolded 𝓤 𝓛.H 𝓜 𝓡)
-    (read-pair-meets 𝓛 𝓜.mem 𝓡.run (tables_of 𝓤 𝓛.H 𝓜 (tables 𝓤 𝓛.H 𝓜 𝓡 code.env))
+    (read_pair_meets 𝓛 𝓜.mem 𝓡.run (tables_of 𝓤 𝓛.H 𝓜 (tables 𝓤 𝓛.H 𝓜 𝓡 code.env))
     (cited 𝓤 𝓛.H (Start 𝓛 𝓜.mem 𝓡.run) 𝓜 𝓡 code.env #reader·start start-def.routine code.calls-reader::start (start-thm.met 𝓤 𝓛 𝓜 𝓡))
     (cited 𝓤 𝓛.H (NextNumber 𝓛 𝓜.mem 𝓡.run) 𝓜 𝓡 code.env #reader·next-number number-def.routine code.calls-reader::next-number (number-thm.met 𝓤 𝓛 𝓜 𝓡))
     (cited 𝓤 𝓛.H (NextExpression 𝓛 𝓜.mem 𝓡.run) 𝓜 𝓡 code.env #reader·next-expression expression-def.routine code.calls-reader::next-expression (expression-thm.met 𝓤 𝓛 𝓜 𝓡)))

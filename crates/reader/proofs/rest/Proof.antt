@@ -40,7 +40,7 @@ use denote.Triple.Walked.{says, Stays, stay_none, walk_of, Goes-none, Walks, end
 use denote.Exit.{yes}
 use denote.Triple.Clauses.{ensured, lasts}
 use Rattle.reader.specs.declared.Reader.{Reader}
-use Rattle.reader.proofs.Held.{bookVal, Own, Book, shares}
+use Rattle.reader.proofs.Held.{book_val, Own, Book, shares}
 use Rattle.reader.specs.contracts.Reader as T
 use Rattle.reader.proofs.Reader.TheLaws as T'
 use Rattle.reader.specs.contracts.part_from as part
@@ -88,7 +88,7 @@ module _ {M : Type 1} {𝓤 : Ura M} (𝓛 : Logic 𝓤) (mem : Memory → SProp
 
   -- what the callee is passed
   abbrev passed : Vals part.signature (κ, tt)
-  passed = (bookVal 𝓛 κ d ∷ [], (vint w64 d.at ∷ [], tt))
+  passed = (book_val 𝓛 κ d ∷ [], (vint w64 d.at ∷ [], tt))
 
   abbrev to : (PartFrom 𝓛 mem run).Ghost
   to = (((κ, tt), (q, tt), tt, (d.book, (d.at, tt)), passed), tt)
@@ -135,20 +135,20 @@ module _ {M : Type 1} {𝓤 : Ura M} (𝓛 : Logic 𝓤) (mem : Memory → SProp
 module _ {M : Type 1} {𝓤 : Ura M} (𝓛 : Logic 𝓤) (mem : Memory → SProp 𝓤) (run : Routine → Fun 𝓤) where
   open 𝓛 use {H}
 
-  rest-walks : (C : Calls 𝓤 H) (Λ : Loops 𝓤 H) → FmC 𝓤 H 𝓛.laws C → Triple 𝓤 (C #reader·part-from) (PartFrom 𝓛 mem run)
+  rest_walks : (C : Calls 𝓤 H) (Λ : Loops 𝓤 H) → FmC 𝓤 H 𝓛.laws C → Triple 𝓤 (C #reader·part-from) (PartFrom 𝓛 mem run)
       → Walks 𝓛 rest-fn.ended stayed (WpFn 𝓤 H C Λ code.function) (rest-fn.clauses 𝓛 mem run)
-  rest-walks C Λ fm known = walked 𝓛 rest-fn.ended stayed (rest-fn.clauses 𝓛 mem run) (WpFn 𝓤 H C Λ code.function) (λ κs. (LL.vals (T.the_type (named_lft 1 0 tt κs)) (T'.the_laws (named_lft 1 0 tt κs)), tt)) (λ κs. (LL.tells (T.the_type (named_lft 1 0 tt κs)) (T'.the_laws (named_lft 1 0 tt κs)), tt))
+  rest_walks C Λ fm known = walked 𝓛 rest-fn.ended stayed (rest-fn.clauses 𝓛 mem run) (WpFn 𝓤 H C Λ code.function) (λ κs. (LL.vals (T.the_type (named_lft 1 0 tt κs)) (T'.the_laws (named_lft 1 0 tt κs)), tt)) (λ κs. (LL.tells (T.the_type (named_lft 1 0 tt κs)) (T'.the_laws (named_lft 1 0 tt κs)), tt))
       (λ κs qs bounds a g are. via 𝓤 _ (fst∗ 𝓤 _ (emp 𝓤)) (walk 𝓛 mem run κs.0 qs.0 a.0 C Λ fm known ((LL.lawful (T.the_type (named_lft 1 0 tt κs)) (T'.the_laws (named_lft 1 0 tt κs)) 𝓛).typed a.0 _ are.0).0))
 
 rest_meets : {M : Type 1} {𝓤 : Ura M} (𝓛 : Logic 𝓤) (mem : Memory → SProp 𝓤) (run : Routine → Fun 𝓤) (𝓣 : Tables 𝓤 𝓛.H)
     → Triple 𝓤 (𝓣.C #reader·part-from) (PartFrom 𝓛 mem run)
     → Meets 𝓛 rest-fn.signature (WpFn 𝓤 𝓛.H 𝓣.C 𝓣.Λ code.function) (rest-fn.spec 𝓛 mem run)
 rest_meets {𝓤 = 𝓤} 𝓛 mem run 𝓣 known-part = walk_Meets 𝓛 rest-fn.ended stayed (Goes-none 𝓛 1 B yes (λ κs x f. refl), tt) (rest-fn.clauses 𝓛 mem run) (WpFn 𝓤 𝓛.H 𝓣.C 𝓣.Λ code.function) (WpFn-mono 𝓤 𝓛.H 𝓛.laws 𝓣 code.function)
-    (rest-walks 𝓛 mem run 𝓣.C 𝓣.Λ (fm_of 𝓤 𝓛.H 𝓛.laws 𝓣) known-part)
+    (rest_walks 𝓛 mem run 𝓣.C 𝓣.Λ (fm_of 𝓤 𝓛.H 𝓛.laws 𝓣) known-part)
 
-pub rest-spec : {M : Type 1} → stated.statement M
+pub rest_spec : {M : Type 1} → stated.statement M
 unfolding code.routine tables_of
-rest-spec 𝓤 𝓛 𝓜 𝓡 =
+rest_spec 𝓤 𝓛 𝓜 𝓡 =
     entered 𝓤 𝓛.H (triple_of 𝓛 rest-fn.signature (rest-fn.spec 𝓛 𝓜.mem 𝓡.run))
     (tables 𝓤 𝓛.H 𝓜 𝓡 code.env).C (tables 𝓤 𝓛.H 𝓜 𝓡 code.env).Λ #reader·rest code.function (code.unfolded 𝓤 𝓛.H 𝓜 𝓡)
     (rest_meets 𝓛 𝓜.mem 𝓡.run (tables_of 𝓤 𝓛.H 𝓜 (tables 𝓤 𝓛.H 𝓜 𝓡 code.env))

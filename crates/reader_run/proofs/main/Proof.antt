@@ -5,47 +5,47 @@ use Prim.Native.Nat.{◌-◌}
 use Rattle.reader_run.proofs.main.Statement.{statement}
 use Rattle.reader_run.proofs.main.Tie as tie
 
-abbrev invariant-loop : tie.invariant-loop
-invariant-loop book at₀ turns₀ at turns = Unit
+abbrev invariant_loop : tie.invariant-loop
+invariant_loop book at₀ turns₀ at turns = Unit
 
-abbrev decreases-loop : tie.decreases-loop
-decreases-loop book at₀ turns₀ at turns = 16 - turns
+abbrev decreases_loop : tie.decreases-loop
+decreases_loop book at₀ turns₀ at turns = 16 - turns
 
-loop-holds : tie.Need-loop-init invariant-loop decreases-loop
-loop-holds c = search rules
+loop_holds : tie.Need-loop-init invariant_loop decreases_loop
+loop_holds c = search rules
 
-add-turns : tie.Need-overflow-add-turns invariant-loop decreases-loop
-add-turns c = search rules
+add_turns : tie.Need-overflow-add-turns invariant_loop decreases_loop
+add_turns c = search rules
 
-show-number-requires : tie.Need-show-number-requires invariant-loop decreases-loop
-show-number-requires c κs = search rules
+show_number_requires : tie.Need-show-number-requires invariant_loop decreases_loop
+show_number_requires c κs = search rules
 
-loop-less : tie.Need-loop-smaller invariant-loop decreases-loop
-loop-less c = search rules
+loop_less : tie.Need-loop-smaller invariant_loop decreases_loop
+loop_less c = search rules
 
-loop-again : tie.Need-loop-preserved invariant-loop decreases-loop
-loop-again c = search rules
+loop_again : tie.Need-loop-preserved invariant_loop decreases_loop
+loop_again c = search rules
 
-show-expression-requires : tie.Need-show-expression-requires invariant-loop decreases-loop
-show-expression-requires c κs = search rules
+show_expression_requires : tie.Need-show-expression-requires invariant_loop decreases_loop
+show_expression_requires c κs = search rules
 
-show-expression-requires-2 : tie.Need-show-expression-requires-2 invariant-loop decreases-loop
-show-expression-requires-2 c κs = search rules
+show_expression_requires_2 : tie.Need-show-expression-requires-2 invariant_loop decreases_loop
+show_expression_requires_2 c κs = search rules
 
-returns : tie.Need-returns invariant-loop decreases-loop
+returns : tie.Need-returns invariant_loop decreases_loop
 returns c = search rules
 
 pub main_spec : {M : Type 1} → statement M
 main_spec =
     tie.close
     (tie.spec
-    invariant-loop
-    decreases-loop
-    loop-holds
-    add-turns
-    show-number-requires
-    loop-less
-    loop-again
-    show-expression-requires
-    show-expression-requires-2
+    invariant_loop
+    decreases_loop
+    loop_holds
+    add_turns
+    show_number_requires
+    loop_less
+    loop_again
+    show_expression_requires
+    show_expression_requires_2
     returns)

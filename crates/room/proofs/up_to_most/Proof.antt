@@ -6,8 +6,8 @@ use Rattle.room.proofs.up_to_most.Tie as tie
 returns : tie.Need-returns
 returns c = omega arith
 
-returns-2 : tie.Need-returns-2
-returns-2 c = omega arith
+returns_2 : tie.Need-returns-2
+returns_2 c = omega arith
 
-pub up-to-most-spec : {M : Type 1} → statement M
-up-to-most-spec = tie.close (tie.spec returns returns-2)
+pub up_to_most_spec : {M : Type 1} → statement M
+up_to_most_spec = tie.close (tie.spec returns returns_2)

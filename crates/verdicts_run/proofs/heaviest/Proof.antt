@@ -7,75 +7,75 @@ use native.Mathlib.Omega.{arith}
 use Rattle.verdicts_run.proofs.heaviest.Statement.{statement}
 use Rattle.verdicts_run.proofs.heaviest.Tie as tie
 
-abbrev invariant-loop : tie.invariant-loop
-invariant-loop b₀ i₀ b i = (i ≤ 32) × (length b ≡ 1124)
+abbrev invariant_loop : tie.invariant-loop
+invariant_loop b₀ i₀ b i = (i ≤ 32) × (length b ≡ 1124)
 
-abbrev decreases-loop : tie.decreases-loop
-decreases-loop b₀ i₀ b i = 32 - i
+abbrev decreases_loop : tie.decreases-loop
+decreases_loop b₀ i₀ b i = 32 - i
 
-array-write-b : tie.Need-array-write-b invariant-loop decreases-loop
-array-write-b c = search rules
+array_write_b : tie.Need-array-write-b invariant_loop decreases_loop
+array_write_b c = search rules
 
-array-write-b-2 : tie.Need-array-write-b-2 invariant-loop decreases-loop
-array-write-b-2 c = search rules
+array_write_b_2 : tie.Need-array-write-b-2 invariant_loop decreases_loop
+array_write_b_2 c = search rules
 
-array-write-b-3 : tie.Need-array-write-b-3 invariant-loop decreases-loop
-array-write-b-3 c = search rules
+array_write_b_3 : tie.Need-array-write-b-3 invariant_loop decreases_loop
+array_write_b_3 c = search rules
 
-loop-holds : tie.Need-loop-init invariant-loop decreases-loop
-loop-holds c = search rules
+loop_holds : tie.Need-loop-init invariant_loop decreases_loop
+loop_holds c = search rules
 
-mul_at : tie.Need-overflow-mul-at invariant-loop decreases-loop
+mul_at : tie.Need-overflow-mul-at invariant_loop decreases_loop
 mul_at c = search rules
 
-add_at : tie.Need-overflow-add-at invariant-loop decreases-loop
+add_at : tie.Need-overflow-add-at invariant_loop decreases_loop
 add_at c = search rules
 
-array-write-b-4 : tie.Need-array-write-b-4 invariant-loop decreases-loop
-array-write-b-4 c = search rules
+array_write_b_4 : tie.Need-array-write-b-4 invariant_loop decreases_loop
+array_write_b_4 c = search rules
 
-add-b : tie.Need-overflow-add-b invariant-loop decreases-loop
-add-b c = search rules
+add_b : tie.Need-overflow-add-b invariant_loop decreases_loop
+add_b c = search rules
 
-array-write-b-5 : tie.Need-array-write-b-5 invariant-loop decreases-loop
-array-write-b-5 c = search rules
+array_write_b_5 : tie.Need-array-write-b-5 invariant_loop decreases_loop
+array_write_b_5 c = search rules
 
-add-i : tie.Need-overflow-add-i invariant-loop decreases-loop
-add-i c = search rules
+add_i : tie.Need-overflow-add-i invariant_loop decreases_loop
+add_i c = search rules
 
-loop-less : tie.Need-loop-smaller invariant-loop decreases-loop
-loop-less c = search rules
+loop_less : tie.Need-loop-smaller invariant_loop decreases_loop
+loop_less c = search rules
 
-loop-again : tie.Need-loop-preserved invariant-loop decreases-loop
-loop-again c = search rules
+loop_again : tie.Need-loop-preserved invariant_loop decreases_loop
+loop_again c = search rules
 
-array-write-b-6 : tie.Need-array-write-b-6 invariant-loop decreases-loop
-array-write-b-6 c = search rules
+array_write_b_6 : tie.Need-array-write-b-6 invariant_loop decreases_loop
+array_write_b_6 c = search rules
 
-array-write-b-7 : tie.Need-array-write-b-7 invariant-loop decreases-loop
-array-write-b-7 c = search rules
+array_write_b_7 : tie.Need-array-write-b-7 invariant_loop decreases_loop
+array_write_b_7 c = search rules
 
-returns : tie.Need-returns invariant-loop decreases-loop
+returns : tie.Need-returns invariant_loop decreases_loop
 returns c = search rules
 
-pub heaviest-spec : {M : Type 1} → statement M
-heaviest-spec =
+pub heaviest_spec : {M : Type 1} → statement M
+heaviest_spec =
     tie.close
     (tie.spec
-    invariant-loop
-    decreases-loop
-    array-write-b
-    array-write-b-2
-    array-write-b-3
-    loop-holds
+    invariant_loop
+    decreases_loop
+    array_write_b
+    array_write_b_2
+    array_write_b_3
+    loop_holds
     mul_at
     add_at
-    array-write-b-4
-    add-b
-    array-write-b-5
-    add-i
-    loop-less
-    loop-again
-    array-write-b-6
-    array-write-b-7
+    array_write_b_4
+    add_b
+    array_write_b_5
+    add_i
+    loop_less
+    loop_again
+    array_write_b_6
+    array_write_b_7
     returns)

@@ -5,51 +5,51 @@ use borrow.Author.Rules.{rules}
 use Rattle.verdicts_run.proofs.show_bytes.Statement.{statement}
 use Rattle.verdicts_run.proofs.show_bytes.Tie as tie
 
-abbrev invariant-loop : tie.invariant-loop
-invariant-loop part i₀ t3 i = i ≤ length part
+abbrev invariant_loop : tie.invariant-loop
+invariant_loop part i₀ t3 i = i ≤ length part
 
-abbrev decreases-loop : tie.decreases-loop
-decreases-loop part i₀ t3 i = length part - i
+abbrev decreases_loop : tie.decreases-loop
+decreases_loop part i₀ t3 i = length part - i
 
-loop-holds : tie.Need-loop-init invariant-loop decreases-loop
-loop-holds c = search rules
+loop_holds : tie.Need-loop-init invariant_loop decreases_loop
+loop_holds c = search rules
 
-shared-slice-read-show-byte : tie.Need-shared-slice-read-show-byte invariant-loop decreases-loop
-shared-slice-read-show-byte c = search rules
+shared_slice_read_show_byte : tie.Need-shared-slice-read-show-byte invariant_loop decreases_loop
+shared_slice_read_show_byte c = search rules
 
-show-byte-requires : tie.Need-show-byte-requires invariant-loop decreases-loop
-show-byte-requires c κs = search rules
+show_byte_requires : tie.Need-show-byte-requires invariant_loop decreases_loop
+show_byte_requires c κs = search rules
 
-add-i : tie.Need-overflow-add-i invariant-loop decreases-loop
-add-i c = search rules
+add_i : tie.Need-overflow-add-i invariant_loop decreases_loop
+add_i c = search rules
 
-loop-less : tie.Need-loop-smaller invariant-loop decreases-loop
-loop-less c = search rules
+loop_less : tie.Need-loop-smaller invariant_loop decreases_loop
+loop_less c = search rules
 
-loop-again : tie.Need-loop-preserved invariant-loop decreases-loop
-loop-again c = search rules
+loop_again : tie.Need-loop-preserved invariant_loop decreases_loop
+loop_again c = search rules
 
-slice-aggregate-write-all : tie.Need-slice-aggregate-write-all invariant-loop decreases-loop
-slice-aggregate-write-all c = search rules
+slice_aggregate_write_all : tie.Need-slice-aggregate-write-all invariant_loop decreases_loop
+slice_aggregate_write_all c = search rules
 
-write-all-requires : tie.Need-write-all-requires invariant-loop decreases-loop
-write-all-requires c κs = search rules
+write_all_requires : tie.Need-write-all-requires invariant_loop decreases_loop
+write_all_requires c κs = search rules
 
-returns : tie.Need-returns invariant-loop decreases-loop
+returns : tie.Need-returns invariant_loop decreases_loop
 returns c = search rules
 
-pub show-bytes-spec : {M : Type 1} → statement M
-show-bytes-spec =
+pub show_bytes_spec : {M : Type 1} → statement M
+show_bytes_spec =
     tie.close
     (tie.spec
-    invariant-loop
-    decreases-loop
-    loop-holds
-    shared-slice-read-show-byte
-    show-byte-requires
-    add-i
-    loop-less
-    loop-again
-    slice-aggregate-write-all
-    write-all-requires
+    invariant_loop
+    decreases_loop
+    loop_holds
+    shared_slice_read_show_byte
+    show_byte_requires
+    add_i
+    loop_less
+    loop_again
+    slice_aggregate_write_all
+    write_all_requires
     returns)

@@ -4,59 +4,59 @@ use Rattle.book.proofs.Notes.{noted}
 use Rattle.book.proofs.rules.note_rule.Statement.{statement}
 use Rattle.book.proofs.rules.note_rule.Tie as tie
 
-cast-place : tie.Need-overflow-cast-place
-cast-place c = search rules
+cast_place : tie.Need-overflow-cast-place
+cast_place c = search rules
 
-mul-place : tie.Need-overflow-mul-place
-mul-place c = search rules
+mul_place : tie.Need-overflow-mul-place
+mul_place c = search rules
 
-element-write-place : tie.Need-element-write-place
-element-write-place c = search rules
+element_write_place : tie.Need-element-write-place
+element_write_place c = search rules
 
-element-write-action : tie.Need-element-write-action
-element-write-action c = search rules
+element_write_action : tie.Need-element-write-action
+element_write_action c = search rules
 
-cast-target : tie.Need-overflow-cast-target
-cast-target c = search rules
+cast_target : tie.Need-overflow-cast-target
+cast_target c = search rules
 
-element-write-target : tie.Need-element-write-target
-element-write-target c = search rules
+element_write_target : tie.Need-element-write-target
+element_write_target c = search rules
 
-cast-expression : tie.Need-overflow-cast-expression
-cast-expression c = search rules
+cast_expression : tie.Need-overflow-cast-expression
+cast_expression c = search rules
 
-mul-expression : tie.Need-overflow-mul-expression
-mul-expression c = search rules
+mul_expression : tie.Need-overflow-mul-expression
+mul_expression c = search rules
 
-element-write-expression : tie.Need-element-write-expression
-element-write-expression c = search rules
+element_write_expression : tie.Need-element-write-expression
+element_write_expression c = search rules
 
-cast-end : tie.Need-overflow-cast-end
-cast-end c = search rules
+cast_end : tie.Need-overflow-cast-end
+cast_end c = search rules
 
-mul-end : tie.Need-overflow-mul-end
-mul-end c = search rules
+mul_end : tie.Need-overflow-mul-end
+mul_end c = search rules
 
-element-write-end : tie.Need-element-write-end
-element-write-end c = search rules
+element_write_end : tie.Need-element-write-end
+element_write_end c = search rules
 
 returns : tie.Need-returns
 returns c = let a = c.before.before.before.before in noted _ _ _ _ _ _ _ _ a.requires.0
 
-pub note-rule-spec : {M : Type 1} → statement M
-note-rule-spec =
+pub note_rule_spec : {M : Type 1} → statement M
+note_rule_spec =
     tie.close
     (tie.spec
-    cast-place
-    mul-place
-    element-write-place
-    element-write-action
-    cast-target
-    element-write-target
-    cast-expression
-    mul-expression
-    element-write-expression
-    cast-end
-    mul-end
-    element-write-end
+    cast_place
+    mul_place
+    element_write_place
+    element_write_action
+    cast_target
+    element_write_target
+    cast_expression
+    mul_expression
+    element_write_expression
+    cast_end
+    mul_end
+    element_write_end
     returns)

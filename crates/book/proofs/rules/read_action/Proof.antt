@@ -2,55 +2,55 @@
 use borrow.Author.Rules.{rules}
 use mathlib.Core.Path.{sym, ◌∙◌, ap}
 use Rattle.numbers.specs.Told.{told}
-use Rattle.book.proofs.ActionSteps.{action-refused, action-plain, action-none, action-call}
+use Rattle.book.proofs.ActionSteps.{action_refused, action_plain, action_none, action_call}
 use Rattle.book.proofs.rules.read_action.Statement.{statement}
 use Rattle.book.proofs.rules.read_action.Tie as tie
 
-read-number-requires : tie.Need-read-number-requires
-read-number-requires c κs = search rules
+read_number_requires : tie.Need-read-number-requires
+read_number_requires c κs = search rules
 
-enum-known-n : tie.Need-enum-known-n
-enum-known-n c = search rules
+enum_known_n : tie.Need-enum-known-n
+enum_known_n c = search rules
 
-enum-known-action : tie.Need-enum-known-action
-enum-known-action c = search rules
+enum_known_action : tie.Need-enum-known-action
+enum_known_action c = search rules
 
-cast-t10 : tie.Need-overflow-cast-t10
-cast-t10 c = search rules
+cast_t10 : tie.Need-overflow-cast-t10
+cast_t10 c = search rules
 
 returns : tie.Need-returns
 returns c =
     let v = c.before.before in
-    action-plain _ _ _ _ _ (sym v.before.before.read_number.ensures ∙ ap told v.action.given.1) c.if1.true
+    action_plain _ _ _ _ _ (sym v.before.before.read_number.ensures ∙ ap told v.action.given.1) c.if1.true
 
-returns-2 : tie.Need-returns-2
-returns-2 c =
+returns_2 : tie.Need-returns-2
+returns_2 c =
     let v = c.before.before.before in
-    action-none _ _ _ _ _ (sym v.before.before.read_number.ensures ∙ ap told v.action.given.1) c.if2.true
+    action_none _ _ _ _ _ (sym v.before.before.read_number.ensures ∙ ap told v.action.given.1) c.if2.true
 
-read-called-requires : tie.Need-read-called-requires
-read-called-requires c κs = search rules
+read_called_requires : tie.Need-read-called-requires
+read_called_requires c κs = search rules
 
-returns-3 : tie.Need-returns-3
-returns-3 c =
+returns_3 : tie.Need-returns-3
+returns_3 c =
     let v = c.before in
-    action-refused _ _ _ _ (sym v.before.before.read_number.ensures ∙ ap told v.n.given.1)
+    action_refused _ _ _ _ (sym v.before.before.read_number.ensures ∙ ap told v.n.given.1)
 
-returns-4 : tie.Need-returns-4
-returns-4 c =
+returns_4 : tie.Need-returns-4
+returns_4 c =
     let v = c.before.before.before.before in
-    action-call _ _ _ _ _ (sym v.before.before.read_number.ensures ∙ ap told v.action.given.1) c.before.before.if1.false c.before.if2.false _ c.read-called.ensures
+    action_call _ _ _ _ _ (sym v.before.before.read_number.ensures ∙ ap told v.action.given.1) c.before.before.if1.false c.before.if2.false _ c.read-called.ensures
 
-pub read-action-spec : {M : Type 1} → statement M
-read-action-spec =
+pub read_action_spec : {M : Type 1} → statement M
+read_action_spec =
     tie.close
     (tie.spec
-    read-number-requires
-    enum-known-n
-    enum-known-action
-    cast-t10
+    read_number_requires
+    enum_known_n
+    enum_known_action
+    cast_t10
     returns
-    returns-2
-    read-called-requires
-    returns-3
-    returns-4)
+    returns_2
+    read_called_requires
+    returns_3
+    returns_4)

@@ -5,87 +5,87 @@ use borrow.Author.Rules.{rules}
 use Rattle.book_run.proofs.deep.chains_of_sources.Statement.{statement}
 use Rattle.book_run.proofs.deep.chains_of_sources.Tie as tie
 
-abbrev invariant-loop : tie.invariant-loop
-invariant-loop name rest b₀ at₀ left₀ t7 t8 b at left = length b ≡ length b₀
+abbrev invariant_loop : tie.invariant-loop
+invariant_loop name rest b₀ at₀ left₀ t7 t8 b at left = length b ≡ length b₀
 
-abbrev decreases-loop : tie.decreases-loop
-decreases-loop name rest b₀ at₀ left₀ t7 t8 b at left = left
+abbrev decreases_loop : tie.decreases-loop
+decreases_loop name rest b₀ at₀ left₀ t7 t8 b at left = left
 
-slice-aggregate-bytes : tie.Need-slice-aggregate-bytes invariant-loop decreases-loop
-slice-aggregate-bytes c = search rules
+slice_aggregate_bytes : tie.Need-slice-aggregate-bytes invariant_loop decreases_loop
+slice_aggregate_bytes c = search rules
 
-slice-aggregate-bytes-2 : tie.Need-slice-aggregate-bytes-2 invariant-loop decreases-loop
-slice-aggregate-bytes-2 c = search rules
+slice_aggregate_bytes_2 : tie.Need-slice-aggregate-bytes-2 invariant_loop decreases_loop
+slice_aggregate_bytes_2 c = search rules
 
-bytes-requires : tie.Need-bytes-requires invariant-loop decreases-loop
-bytes-requires c κs = search rules
+bytes_requires : tie.Need-bytes-requires invariant_loop decreases_loop
+bytes_requires c κs = search rules
 
-loop-holds : tie.Need-loop-init invariant-loop decreases-loop
-loop-holds c = search rules
+loop_holds : tie.Need-loop-init invariant_loop decreases_loop
+loop_holds c = search rules
 
-slice-aggregate-bytes-3 : tie.Need-slice-aggregate-bytes-3 invariant-loop decreases-loop
-slice-aggregate-bytes-3 c = search rules
+slice_aggregate_bytes_3 : tie.Need-slice-aggregate-bytes-3 invariant_loop decreases_loop
+slice_aggregate_bytes_3 c = search rules
 
-slice-aggregate-bytes-4 : tie.Need-slice-aggregate-bytes-4 invariant-loop decreases-loop
-slice-aggregate-bytes-4 c = search rules
+slice_aggregate_bytes_4 : tie.Need-slice-aggregate-bytes-4 invariant_loop decreases_loop
+slice_aggregate_bytes_4 c = search rules
 
-bytes-requires-2 : tie.Need-bytes-requires-2 invariant-loop decreases-loop
-bytes-requires-2 c κs = search rules
+bytes_requires_2 : tie.Need-bytes-requires-2 invariant_loop decreases_loop
+bytes_requires_2 c κs = search rules
 
-slice-aggregate-repeat : tie.Need-slice-aggregate-repeat invariant-loop decreases-loop
-slice-aggregate-repeat c = search rules
+slice_aggregate_repeat : tie.Need-slice-aggregate-repeat invariant_loop decreases_loop
+slice_aggregate_repeat c = search rules
 
-slice-aggregate-repeat-2 : tie.Need-slice-aggregate-repeat-2 invariant-loop decreases-loop
-slice-aggregate-repeat-2 c = search rules
+slice_aggregate_repeat_2 : tie.Need-slice-aggregate-repeat-2 invariant_loop decreases_loop
+slice_aggregate_repeat_2 c = search rules
 
-repeat-requires : tie.Need-repeat-requires invariant-loop decreases-loop
-repeat-requires c κs = search rules
+repeat_requires : tie.Need-repeat-requires invariant_loop decreases_loop
+repeat_requires c κs = search rules
 
-sub-left : tie.Need-overflow-sub-left invariant-loop decreases-loop
-sub-left c = search rules
+sub_left : tie.Need-overflow-sub-left invariant_loop decreases_loop
+sub_left c = search rules
 
-loop-less : tie.Need-loop-smaller invariant-loop decreases-loop
-loop-less c = search rules
+loop_less : tie.Need-loop-smaller invariant_loop decreases_loop
+loop_less c = search rules
 
-loop-again : tie.Need-loop-preserved invariant-loop decreases-loop
-loop-again c = search rules
+loop_again : tie.Need-loop-preserved invariant_loop decreases_loop
+loop_again c = search rules
 
-slice-aggregate-bytes-5 : tie.Need-slice-aggregate-bytes-5 invariant-loop decreases-loop
-slice-aggregate-bytes-5 c = search rules
+slice_aggregate_bytes_5 : tie.Need-slice-aggregate-bytes-5 invariant_loop decreases_loop
+slice_aggregate_bytes_5 c = search rules
 
-bytes-requires-3 : tie.Need-bytes-requires-3 invariant-loop decreases-loop
-bytes-requires-3 c κs = search rules
+bytes_requires_3 : tie.Need-bytes-requires-3 invariant_loop decreases_loop
+bytes_requires_3 c κs = search rules
 
-slice-aggregate-show-part : tie.Need-slice-aggregate-show-part invariant-loop decreases-loop
-slice-aggregate-show-part c = search rules
+slice_aggregate_show_part : tie.Need-slice-aggregate-show-part invariant_loop decreases_loop
+slice_aggregate_show_part c = search rules
 
-show-part-requires : tie.Need-show-part-requires invariant-loop decreases-loop
-show-part-requires c κs = search rules
+show_part_requires : tie.Need-show-part-requires invariant_loop decreases_loop
+show_part_requires c κs = search rules
 
-returns : tie.Need-returns invariant-loop decreases-loop
+returns : tie.Need-returns invariant_loop decreases_loop
 returns c = search rules
 
-pub chains-of-sources-spec : {M : Type 1} → statement M
-chains-of-sources-spec =
+pub chains_of_sources_spec : {M : Type 1} → statement M
+chains_of_sources_spec =
     tie.close
     (tie.spec
-    invariant-loop
-    decreases-loop
-    slice-aggregate-bytes
-    slice-aggregate-bytes-2
-    bytes-requires
-    loop-holds
-    slice-aggregate-bytes-3
-    slice-aggregate-bytes-4
-    bytes-requires-2
-    slice-aggregate-repeat
-    slice-aggregate-repeat-2
-    repeat-requires
-    sub-left
-    loop-less
-    loop-again
-    slice-aggregate-bytes-5
-    bytes-requires-3
-    slice-aggregate-show-part
-    show-part-requires
+    invariant_loop
+    decreases_loop
+    slice_aggregate_bytes
+    slice_aggregate_bytes_2
+    bytes_requires
+    loop_holds
+    slice_aggregate_bytes_3
+    slice_aggregate_bytes_4
+    bytes_requires_2
+    slice_aggregate_repeat
+    slice_aggregate_repeat_2
+    repeat_requires
+    sub_left
+    loop_less
+    loop_again
+    slice_aggregate_bytes_5
+    bytes_requires_3
+    slice_aggregate_show_part
+    show_part_requires
     returns)

@@ -5,43 +5,43 @@ use borrow.Author.Rules.{rules}
 use Rattle.book_run.proofs.put.repeat.Statement.{statement}
 use Rattle.book_run.proofs.put.repeat.Tie as tie
 
-abbrev invariant-loop : tie.invariant-loop
-invariant-loop b₀ at text n next₀ left₀ b next left = length b ≡ length b₀
+abbrev invariant_loop : tie.invariant-loop
+invariant_loop b₀ at text n next₀ left₀ b next left = length b ≡ length b₀
 
-abbrev decreases-loop : tie.decreases-loop
-decreases-loop b₀ at text n next₀ left₀ b next left = left
+abbrev decreases_loop : tie.decreases-loop
+decreases_loop b₀ at text n next₀ left₀ b next left = left
 
-loop-holds : tie.Need-loop-init invariant-loop decreases-loop
-loop-holds c = search rules
+loop_holds : tie.Need-loop-init invariant_loop decreases_loop
+loop_holds c = search rules
 
-bytes-requires : tie.Need-bytes-requires invariant-loop decreases-loop
-bytes-requires c κs = search rules
+bytes_requires : tie.Need-bytes-requires invariant_loop decreases_loop
+bytes_requires c κs = search rules
 
-sub-left : tie.Need-overflow-sub-left invariant-loop decreases-loop
-sub-left c = search rules
+sub_left : tie.Need-overflow-sub-left invariant_loop decreases_loop
+sub_left c = search rules
 
-loop-less : tie.Need-loop-smaller invariant-loop decreases-loop
-loop-less c = search rules
+loop_less : tie.Need-loop-smaller invariant_loop decreases_loop
+loop_less c = search rules
 
-loop-again : tie.Need-loop-preserved invariant-loop decreases-loop
-loop-again c = search rules
+loop_again : tie.Need-loop-preserved invariant_loop decreases_loop
+loop_again c = search rules
 
-same_length : tie.Need-same-length invariant-loop decreases-loop
+same_length : tie.Need-same-length invariant_loop decreases_loop
 same_length c = search rules
 
-returns : tie.Need-returns invariant-loop decreases-loop
+returns : tie.Need-returns invariant_loop decreases_loop
 returns c = search rules
 
-pub repeat-spec : {M : Type 1} → statement M
-repeat-spec =
+pub repeat_spec : {M : Type 1} → statement M
+repeat_spec =
     tie.close
     (tie.spec
-    invariant-loop
-    decreases-loop
-    loop-holds
-    bytes-requires
-    sub-left
-    loop-less
-    loop-again
+    invariant_loop
+    decreases_loop
+    loop_holds
+    bytes_requires
+    sub_left
+    loop_less
+    loop_again
     same_length
     returns)

@@ -6,18 +6,18 @@ use borrow.Author.Rules.{rules}
 use Rattle.book_run.proofs.show.show_part_from.Statement.{statement}
 use Rattle.book_run.proofs.show.show_part_from.Tie as tie
 
-slice-aggregate-show-from : tie.Need-slice-aggregate-show-from
-slice-aggregate-show-from c = sym (length-take-le c.before.before.before.before.args.n c.before.before.before.before.args.b.now (omega arith))
+slice_aggregate_show_from : tie.Need-slice-aggregate-show-from
+slice_aggregate_show_from c = sym (length-take-le c.before.before.before.before.args.n c.before.before.before.before.args.b.now (omega arith))
 
-show-from-requires : tie.Need-show-from-requires
-show-from-requires c κs = search rules
+show_from_requires : tie.Need-show-from-requires
+show_from_requires c κs = search rules
 
 returns : tie.Need-returns
 returns c = search rules
 
-returns-2 : tie.Need-returns-2
-returns-2 c = search rules
+returns_2 : tie.Need-returns-2
+returns_2 c = search rules
 
-pub show-part-from-spec : {M : Type 1} → statement M
-show-part-from-spec =
-    tie.close (tie.spec slice-aggregate-show-from show-from-requires returns returns-2)
+pub show_part_from_spec : {M : Type 1} → statement M
+show_part_from_spec =
+    tie.close (tie.spec slice_aggregate_show_from show_from_requires returns returns_2)

@@ -5,51 +5,51 @@ use borrow.Author.Rules.{rules}
 use Rattle.book_run.proofs.webs.row.Statement.{statement}
 use Rattle.book_run.proofs.webs.row.Tie as tie
 
-abbrev invariant-loop : tie.invariant-loop
-invariant-loop b₀ at c next₀ called₀ left₀ b next called left = length b ≡ length b₀
+abbrev invariant_loop : tie.invariant-loop
+invariant_loop b₀ at c next₀ called₀ left₀ b next called left = length b ≡ length b₀
 
-abbrev decreases-loop : tie.decreases-loop
-decreases-loop b₀ at c next₀ called₀ left₀ b next called left = left
+abbrev decreases_loop : tie.decreases-loop
+decreases_loop b₀ at c next₀ called₀ left₀ b next called left = left
 
-byte-requires : tie.Need-byte-requires invariant-loop decreases-loop
-byte-requires c κs = search rules
+byte_requires : tie.Need-byte-requires invariant_loop decreases_loop
+byte_requires c κs = search rules
 
-loop-holds : tie.Need-loop-init invariant-loop decreases-loop
-loop-holds c = search rules
+loop_holds : tie.Need-loop-init invariant_loop decreases_loop
+loop_holds c = search rules
 
-add-called : tie.Need-overflow-add-called invariant-loop decreases-loop
-add-called c = search rules
+add_called : tie.Need-overflow-add-called invariant_loop decreases_loop
+add_called c = search rules
 
-calls-requires : tie.Need-calls-requires invariant-loop decreases-loop
-calls-requires c κs = search rules
+calls_requires : tie.Need-calls-requires invariant_loop decreases_loop
+calls_requires c κs = search rules
 
-sub-left : tie.Need-overflow-sub-left invariant-loop decreases-loop
-sub-left c = search rules
+sub_left : tie.Need-overflow-sub-left invariant_loop decreases_loop
+sub_left c = search rules
 
-loop-less : tie.Need-loop-smaller invariant-loop decreases-loop
-loop-less c = search rules
+loop_less : tie.Need-loop-smaller invariant_loop decreases_loop
+loop_less c = search rules
 
-loop-again : tie.Need-loop-preserved invariant-loop decreases-loop
-loop-again c = search rules
+loop_again : tie.Need-loop-preserved invariant_loop decreases_loop
+loop_again c = search rules
 
-same_length : tie.Need-same-length invariant-loop decreases-loop
+same_length : tie.Need-same-length invariant_loop decreases_loop
 same_length c = search rules
 
-returns : tie.Need-returns invariant-loop decreases-loop
+returns : tie.Need-returns invariant_loop decreases_loop
 returns c = search rules
 
-pub row-spec : {M : Type 1} → statement M
-row-spec =
+pub row_spec : {M : Type 1} → statement M
+row_spec =
     tie.close
     (tie.spec
-    invariant-loop
-    decreases-loop
-    byte-requires
-    loop-holds
-    add-called
-    calls-requires
-    sub-left
-    loop-less
-    loop-again
+    invariant_loop
+    decreases_loop
+    byte_requires
+    loop_holds
+    add_called
+    calls_requires
+    sub_left
+    loop_less
+    loop_again
     same_length
     returns)

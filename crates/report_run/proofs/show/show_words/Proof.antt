@@ -5,63 +5,63 @@ use borrow.Author.Rules.{rules}
 use Rattle.report_run.proofs.show.show_words.Statement.{statement}
 use Rattle.report_run.proofs.show.show_words.Tie as tie
 
-abbrev invariant-loop : tie.invariant-loop
-invariant-loop words i₀ t4 i = i ≤ length words
+abbrev invariant_loop : tie.invariant-loop
+invariant_loop words i₀ t4 i = i ≤ length words
 
-abbrev decreases-loop : tie.decreases-loop
-decreases-loop words i₀ t4 i = length words - i
+abbrev decreases_loop : tie.decreases-loop
+decreases_loop words i₀ t4 i = length words - i
 
-slice-aggregate-write-all : tie.Need-slice-aggregate-write-all invariant-loop decreases-loop
-slice-aggregate-write-all c = search rules
+slice_aggregate_write_all : tie.Need-slice-aggregate-write-all invariant_loop decreases_loop
+slice_aggregate_write_all c = search rules
 
-write-all-requires : tie.Need-write-all-requires invariant-loop decreases-loop
-write-all-requires c κs = search rules
+write_all_requires : tie.Need-write-all-requires invariant_loop decreases_loop
+write_all_requires c κs = search rules
 
-loop-holds : tie.Need-loop-init invariant-loop decreases-loop
-loop-holds c = search rules
+loop_holds : tie.Need-loop-init invariant_loop decreases_loop
+loop_holds c = search rules
 
-mul-show-word : tie.Need-overflow-mul-show-word invariant-loop decreases-loop
-mul-show-word c = search rules
+mul_show_word : tie.Need-overflow-mul-show-word invariant_loop decreases_loop
+mul_show_word c = search rules
 
-shared-slice-read-show-word : tie.Need-shared-slice-read-show-word invariant-loop decreases-loop
-shared-slice-read-show-word c = search rules
+shared_slice_read_show_word : tie.Need-shared-slice-read-show-word invariant_loop decreases_loop
+shared_slice_read_show_word c = search rules
 
-show-word-requires : tie.Need-show-word-requires invariant-loop decreases-loop
-show-word-requires c κs = search rules
+show_word_requires : tie.Need-show-word-requires invariant_loop decreases_loop
+show_word_requires c κs = search rules
 
-add-i : tie.Need-overflow-add-i invariant-loop decreases-loop
-add-i c = search rules
+add_i : tie.Need-overflow-add-i invariant_loop decreases_loop
+add_i c = search rules
 
-loop-less : tie.Need-loop-smaller invariant-loop decreases-loop
-loop-less c = search rules
+loop_less : tie.Need-loop-smaller invariant_loop decreases_loop
+loop_less c = search rules
 
-loop-again : tie.Need-loop-preserved invariant-loop decreases-loop
-loop-again c = search rules
+loop_again : tie.Need-loop-preserved invariant_loop decreases_loop
+loop_again c = search rules
 
-slice-aggregate-write-all-2 : tie.Need-slice-aggregate-write-all-2 invariant-loop decreases-loop
-slice-aggregate-write-all-2 c = search rules
+slice_aggregate_write_all_2 : tie.Need-slice-aggregate-write-all-2 invariant_loop decreases_loop
+slice_aggregate_write_all_2 c = search rules
 
-write-all-requires-2 : tie.Need-write-all-requires-2 invariant-loop decreases-loop
-write-all-requires-2 c κs = search rules
+write_all_requires_2 : tie.Need-write-all-requires-2 invariant_loop decreases_loop
+write_all_requires_2 c κs = search rules
 
-returns : tie.Need-returns invariant-loop decreases-loop
+returns : tie.Need-returns invariant_loop decreases_loop
 returns c = search rules
 
-pub show-words-spec : {M : Type 1} → statement M
-show-words-spec =
+pub show_words_spec : {M : Type 1} → statement M
+show_words_spec =
     tie.close
     (tie.spec
-    invariant-loop
-    decreases-loop
-    slice-aggregate-write-all
-    write-all-requires
-    loop-holds
-    mul-show-word
-    shared-slice-read-show-word
-    show-word-requires
-    add-i
-    loop-less
-    loop-again
-    slice-aggregate-write-all-2
-    write-all-requires-2
+    invariant_loop
+    decreases_loop
+    slice_aggregate_write_all
+    write_all_requires
+    loop_holds
+    mul_show_word
+    shared_slice_read_show_word
+    show_word_requires
+    add_i
+    loop_less
+    loop_again
+    slice_aggregate_write_all_2
+    write_all_requires_2
     returns)

@@ -1,67 +1,67 @@
 -- `review::rules::is_rule_expression` meets its contract. The invariant: all places before `low` are lower, and all from `high` on are higher. Assumes nothing.
 use Prim.Native.Nat.{◌-◌}
 use native.Mathlib.Omega.{arith}
-use Rattle.review.proofs.Expressions.{Window, few-rules, window-all, window-up, window-down, window-found, window-none}
+use Rattle.review.proofs.Expressions.{Window, few_rules, window_all, window_up, window_down, window_found, window_none}
 use Rattle.review.proofs.rules.is_rule_expression.Statement.{statement}
 use Rattle.review.proofs.rules.is_rule_expression.Tie as tie
 
-abbrev invariant-loop : tie.invariant-loop
-invariant-loop expression rules at low₀ high₀ low high = Window expression rules at low high
+abbrev invariant_loop : tie.invariant-loop
+invariant_loop expression rules at low₀ high₀ low high = Window expression rules at low high
 
-abbrev decreases-loop : tie.decreases-loop
-decreases-loop expression rules at low₀ high₀ low high = high - low
+abbrev decreases_loop : tie.decreases-loop
+decreases_loop expression rules at low₀ high₀ low high = high - low
 
-loop-holds : tie.Need-loop-init invariant-loop decreases-loop
-loop-holds c = window-all _ _ _
+loop_holds : tie.Need-loop-init invariant_loop decreases_loop
+loop_holds c = window_all _ _ _
 
-sub-middle : tie.Need-overflow-sub-middle invariant-loop decreases-loop
-sub-middle c = omega arith
+sub_middle : tie.Need-overflow-sub-middle invariant_loop decreases_loop
+sub_middle c = omega arith
 
-add-middle : tie.Need-overflow-add-middle invariant-loop decreases-loop
-add-middle c = omega arith
+add_middle : tie.Need-overflow-add-middle invariant_loop decreases_loop
+add_middle c = omega arith
 
-mul-place : tie.Need-overflow-mul-place invariant-loop decreases-loop
-mul-place c = omega (arith, few-rules c.before.before.requires)
+mul_place : tie.Need-overflow-mul-place invariant_loop decreases_loop
+mul_place c = omega (arith, few_rules c.before.before.requires)
 
-element-copy-out-place : tie.Need-element-copy-out-place invariant-loop decreases-loop
-element-copy-out-place c = omega (arith, few-rules c.before.before.requires)
+element_copy_out_place : tie.Need-element-copy-out-place invariant_loop decreases_loop
+element_copy_out_place c = omega (arith, few_rules c.before.before.requires)
 
-returns : tie.Need-returns invariant-loop decreases-loop
-returns c = let i = c.before.before in λ b k. window-found _ _ _ b k _ (omega (arith, i.before.loop.invariant.inside, i.loop-test.true)) c.if1.true
+returns : tie.Need-returns invariant_loop decreases_loop
+returns c = let i = c.before.before in λ b k. window_found _ _ _ b k _ (omega (arith, i.before.loop.invariant.inside, i.loop-test.true)) c.if1.true
 
-add_low : tie.Need-overflow-add-low invariant-loop decreases-loop
+add_low : tie.Need-overflow-add-low invariant_loop decreases_loop
 add_low c = omega arith
 
-loop-less : tie.Need-loop-smaller invariant-loop decreases-loop
-loop-less c = omega arith
+loop_less : tie.Need-loop-smaller invariant_loop decreases_loop
+loop_less c = omega arith
 
-loop-again : tie.Need-loop-preserved invariant-loop decreases-loop
-loop-again c = let i = c.before.before.before in window-up _ _ _ i.before.before.requires _ _ i.before.loop.invariant _ (omega (arith, i.loop-test.true)) c.if2.true
+loop_again : tie.Need-loop-preserved invariant_loop decreases_loop
+loop_again c = let i = c.before.before.before in window_up _ _ _ i.before.before.requires _ _ i.before.loop.invariant _ (omega (arith, i.loop-test.true)) c.if2.true
 
-loop-less-2 : tie.Need-loop-smaller-2 invariant-loop decreases-loop
-loop-less-2 c = omega arith
+loop_less_2 : tie.Need-loop-smaller-2 invariant_loop decreases_loop
+loop_less_2 c = omega arith
 
-loop-again-2 : tie.Need-loop-preserved-2 invariant-loop decreases-loop
-loop-again-2 c = let i = c.before.before.before in window-down _ _ _ i.before.before.requires _ _ i.before.loop.invariant _ (omega (arith, i.loop-test.true)) (omega (arith, c.if2.false, c.before.if1.false))
+loop_again_2 : tie.Need-loop-preserved-2 invariant_loop decreases_loop
+loop_again_2 c = let i = c.before.before.before in window_down _ _ _ i.before.before.requires _ _ i.before.loop.invariant _ (omega (arith, i.loop-test.true)) (omega (arith, c.if2.false, c.before.if1.false))
 
-returns-2 : tie.Need-returns-2 invariant-loop decreases-loop
-returns-2 c = λ b k. window-none _ _ _ b k _ _ c.before.loop.invariant c.loop-test.false
+returns_2 : tie.Need-returns-2 invariant_loop decreases_loop
+returns_2 c = λ b k. window_none _ _ _ b k _ _ c.before.loop.invariant c.loop-test.false
 
-pub is-rule-expression-spec : {M : Type 1} → statement M
-is-rule-expression-spec =
+pub is_rule_expression_spec : {M : Type 1} → statement M
+is_rule_expression_spec =
     tie.close
     (tie.spec
-    invariant-loop
-    decreases-loop
-    loop-holds
-    sub-middle
-    add-middle
-    mul-place
-    element-copy-out-place
+    invariant_loop
+    decreases_loop
+    loop_holds
+    sub_middle
+    add_middle
+    mul_place
+    element_copy_out_place
     returns
     add_low
-    loop-less
-    loop-again
-    loop-less-2
-    loop-again-2
-    returns-2)
+    loop_less
+    loop_again
+    loop_less_2
+    loop_again_2
+    returns_2)

@@ -4,59 +4,59 @@ use borrow.Author.Rules.{rules}
 use Rattle.review_run.proofs.show.slices.Statement.{statement}
 use Rattle.review_run.proofs.show.slices.Tie as tie
 
-abbrev invariant-loop : tie.invariant-loop
-invariant-loop book list state₀ left₀ state left = left ≤ 8
+abbrev invariant_loop : tie.invariant-loop
+invariant_loop book list state₀ left₀ state left = left ≤ 8
 
-abbrev decreases-loop : tie.decreases-loop
-decreases-loop book list state₀ left₀ state left = left
+abbrev decreases_loop : tie.decreases-loop
+decreases_loop book list state₀ left₀ state left = left
 
-loop-holds : tie.Need-loop-init invariant-loop decreases-loop
-loop-holds c = search rules
+loop_holds : tie.Need-loop-init invariant_loop decreases_loop
+loop_holds c = search rules
 
-step-requires : tie.Need-step-requires invariant-loop decreases-loop
-step-requires c κs = search rules
+step_requires : tie.Need-step-requires invariant_loop decreases_loop
+step_requires c κs = search rules
 
-show-answer-requires : tie.Need-show-answer-requires invariant-loop decreases-loop
-show-answer-requires c κs = search rules
+show_answer_requires : tie.Need-show-answer-requires invariant_loop decreases_loop
+show_answer_requires c κs = search rules
 
-show-state-requires : tie.Need-show-state-requires invariant-loop decreases-loop
-show-state-requires c κs = search rules
+show_state_requires : tie.Need-show-state-requires invariant_loop decreases_loop
+show_state_requires c κs = search rules
 
-is-running-requires : tie.Need-is-running-requires invariant-loop decreases-loop
-is-running-requires c κs = search rules
+is_running_requires : tie.Need-is-running-requires invariant_loop decreases_loop
+is_running_requires c κs = search rules
 
-sub-left : tie.Need-overflow-sub-left invariant-loop decreases-loop
-sub-left c = search rules
+sub_left : tie.Need-overflow-sub-left invariant_loop decreases_loop
+sub_left c = search rules
 
-loop-less : tie.Need-loop-smaller invariant-loop decreases-loop
-loop-less c = search rules
+loop_less : tie.Need-loop-smaller invariant_loop decreases_loop
+loop_less c = search rules
 
-loop-again : tie.Need-loop-preserved invariant-loop decreases-loop
-loop-again c = search rules
+loop_again : tie.Need-loop-preserved invariant_loop decreases_loop
+loop_again c = search rules
 
-loop-less-2 : tie.Need-loop-smaller-2 invariant-loop decreases-loop
-loop-less-2 c = search rules
+loop_less_2 : tie.Need-loop-smaller-2 invariant_loop decreases_loop
+loop_less_2 c = search rules
 
-loop-again-2 : tie.Need-loop-preserved-2 invariant-loop decreases-loop
-loop-again-2 c = search rules
+loop_again_2 : tie.Need-loop-preserved-2 invariant_loop decreases_loop
+loop_again_2 c = search rules
 
-returns : tie.Need-returns invariant-loop decreases-loop
+returns : tie.Need-returns invariant_loop decreases_loop
 returns c = search rules
 
-pub slices-spec : {M : Type 1} → statement M
-slices-spec =
+pub slices_spec : {M : Type 1} → statement M
+slices_spec =
     tie.close
     (tie.spec
-    invariant-loop
-    decreases-loop
-    loop-holds
-    step-requires
-    show-answer-requires
-    show-state-requires
-    is-running-requires
-    sub-left
-    loop-less
-    loop-again
-    loop-less-2
-    loop-again-2
+    invariant_loop
+    decreases_loop
+    loop_holds
+    step_requires
+    show_answer_requires
+    show_state_requires
+    is_running_requires
+    sub_left
+    loop_less
+    loop_again
+    loop_less_2
+    loop_again_2
     returns)

@@ -6,11 +6,11 @@ use Rattle.reviewer.proofs.slices.phase_in.Tie as tie
 returns : tie.Need-returns
 returns c = runs _ _ _ c.if1.true
 
-returns-2 : tie.Need-returns-2
-returns-2 c = certifies _ _ _ c.before.if1.false c.if2.true
+returns_2 : tie.Need-returns-2
+returns_2 c = certifies _ _ _ c.before.if1.false c.if2.true
 
-returns-3 : tie.Need-returns-3
-returns-3 c = refuses _ _ _ c.before.if1.false c.if2.false
+returns_3 : tie.Need-returns-3
+returns_3 c = refuses _ _ _ c.before.if1.false c.if2.false
 
-pub phase-in-spec : {M : Type 1} → statement M
-phase-in-spec = tie.close (tie.spec returns returns-2 returns-3)
+pub phase_in_spec : {M : Type 1} → statement M
+phase_in_spec = tie.close (tie.spec returns returns_2 returns_3)

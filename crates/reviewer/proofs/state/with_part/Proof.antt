@@ -6,64 +6,64 @@ use lib.ListN.{length, take}
 use lib.Seq.{take_all}
 use borrow.Author.Rules.{rules}
 use Rattle.model.specs.Filling.{put}
-use Rattle.model.proofs.Filling.{put-none}
-use Rattle.reviewer.specs.StateWords.{stateSize}
-use Rattle.reviewer.proofs.Slots.{put-more}
+use Rattle.model.proofs.Filling.{put_none}
+use Rattle.reviewer.specs.StateWords.{state_size}
+use Rattle.reviewer.proofs.Slots.{put_more}
 use Rattle.reviewer.proofs.state.with_part.Statement.{statement}
 use Rattle.reviewer.proofs.state.with_part.Tie as tie
 
-abbrev invariant-loop : tie.invariant-loop
-invariant-loop from part out₀ i₀ out i = (i ≤ length part) × (length out ≡ stateSize) × (out ≡ put out₀ from (take i part))
+abbrev invariant_loop : tie.invariant-loop
+invariant_loop from part out₀ i₀ out i = (i ≤ length part) × (length out ≡ state_size) × (out ≡ put out₀ from (take i part))
 
-abbrev decreases-loop : tie.decreases-loop
-decreases-loop from part out₀ i₀ out i = length part - i
+abbrev decreases_loop : tie.decreases-loop
+decreases_loop from part out₀ i₀ out i = length part - i
 
-loop-holds : tie.Need-loop-init invariant-loop decreases-loop
-loop-holds c = (search rules, c.well-formed.0.1.0.1, sym (put-none _ _))
+loop_holds : tie.Need-loop-init invariant_loop decreases_loop
+loop_holds c = (search rules, c.well-formed.0.1.0.1, sym (put_none _ _))
 
-mul-out : tie.Need-overflow-mul-out invariant-loop decreases-loop
-mul-out c = omega arith
+mul_out : tie.Need-overflow-mul-out invariant_loop decreases_loop
+mul_out c = omega arith
 
-shared-slice-read-out : tie.Need-shared-slice-read-out invariant-loop decreases-loop
-shared-slice-read-out c = omega arith
+shared_slice_read_out : tie.Need-shared-slice-read-out invariant_loop decreases_loop
+shared_slice_read_out c = omega arith
 
-add-out : tie.Need-overflow-add-out invariant-loop decreases-loop
-add-out c = omega arith
+add_out : tie.Need-overflow-add-out invariant_loop decreases_loop
+add_out c = omega arith
 
-mul-out-2 : tie.Need-overflow-mul-out-2 invariant-loop decreases-loop
-mul-out-2 c = omega arith
+mul_out_2 : tie.Need-overflow-mul-out-2 invariant_loop decreases_loop
+mul_out_2 c = omega arith
 
-array-write-out : tie.Need-array-write-out invariant-loop decreases-loop
-array-write-out c = omega arith
+array_write_out : tie.Need-array-write-out invariant_loop decreases_loop
+array_write_out c = omega arith
 
-add-i : tie.Need-overflow-add-i invariant-loop decreases-loop
-add-i c = omega arith
+add_i : tie.Need-overflow-add-i invariant_loop decreases_loop
+add_i c = omega arith
 
-loop-less : tie.Need-loop-smaller invariant-loop decreases-loop
-loop-less c = omega arith
+loop_less : tie.Need-loop-smaller invariant_loop decreases_loop
+loop_less c = omega arith
 
-loop-again : tie.Need-loop-preserved invariant-loop decreases-loop
-loop-again c =
+loop_again : tie.Need-loop-preserved invariant_loop decreases_loop
+loop_again c =
     let l = c.before.before.loop in
     let s = c.before.before.before in
-    (omega arith, search rules, put-more s.args.words l.out s.args.part.now s.args.from l.i (omega arith) (omega (arith, s.well-formed.0.1.0.1)) l.invariant.2)
+    (omega arith, search rules, put_more s.args.words l.out s.args.part.now s.args.from l.i (omega arith) (omega (arith, s.well-formed.0.1.0.1)) l.invariant.2)
 
-returns : tie.Need-returns invariant-loop decreases-loop
+returns : tie.Need-returns invariant_loop decreases_loop
 returns c = let l = c.before.loop in let s = c.before.before in l.invariant.2 ∙ ap (put _ _) (take_all l.i s.args.part.now (omega arith))
 
-pub with-part-spec : {M : Type 1} → statement M
-with-part-spec =
+pub with_part_spec : {M : Type 1} → statement M
+with_part_spec =
     tie.close
     (tie.spec
-    invariant-loop
-    decreases-loop
-    loop-holds
-    mul-out
-    shared-slice-read-out
-    add-out
-    mul-out-2
-    array-write-out
-    add-i
-    loop-less
-    loop-again
+    invariant_loop
+    decreases_loop
+    loop_holds
+    mul_out
+    shared_slice_read_out
+    add_out
+    mul_out_2
+    array_write_out
+    add_i
+    loop_less
+    loop_again
     returns)

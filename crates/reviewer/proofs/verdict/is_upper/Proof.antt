@@ -6,8 +6,8 @@ use Rattle.reviewer.proofs.verdict.is_upper.Tie as tie
 returns : tie.Need-returns
 returns c = lower_of _ c.if1.true
 
-returns-2 : tie.Need-returns-2
-returns-2 c = upper_of _ c.if1.false
+returns_2 : tie.Need-returns-2
+returns_2 c = upper_of _ c.if1.false
 
-pub is-upper-spec : {M : Type 1} → statement M
-is-upper-spec = tie.close (tie.spec returns returns-2)
+pub is_upper_spec : {M : Type 1} → statement M
+is_upper_spec = tie.close (tie.spec returns returns_2)

@@ -4,17 +4,17 @@ use borrow.Author.Rules.{rules}
 use Rattle.reviewer.proofs.words.word.Statement.{statement}
 use Rattle.reviewer.proofs.words.word.Tie as tie
 
-cast-result : tie.Need-overflow-cast-result
-cast-result c = search rules
+cast_result : tie.Need-overflow-cast-result
+cast_result c = search rules
 
 returns : tie.Need-returns
 returns c = fits _ c.if1.true
 
-cast-result-2 : tie.Need-overflow-cast-result-2
-cast-result-2 c = search rules
+cast_result_2 : tie.Need-overflow-cast-result-2
+cast_result_2 c = search rules
 
-returns-2 : tie.Need-returns-2
-returns-2 c = too_large _ c.if1.false
+returns_2 : tie.Need-returns-2
+returns_2 c = too_large _ c.if1.false
 
-pub word-spec : {M : Type 1} → statement M
-word-spec = tie.close (tie.spec cast-result returns cast-result-2 returns-2)
+pub word_spec : {M : Type 1} → statement M
+word_spec = tie.close (tie.spec cast_result returns cast_result_2 returns_2)
