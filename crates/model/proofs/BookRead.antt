@@ -10,7 +10,7 @@ use lib.ListN.{length, length-append}
 use borrow.Author.Tests.{ltb-true}
 use Rattle.model.specs.Limits.{book_bytes, chains_most, rules_most, levels_most, sources_most, weight_most, operands_most, port_highest, protocol_highest, service_highest, unread_highest}
 use Rattle.model.specs.Answer.{fine}
-use Rattle.model.specs.Reader.{Stand, Read, got, refused, Reader, each}
+use Rattle.model.specs.Reader.{refuse, choose, Stand, Read, got, refused, Reader, each}
 use Rattle.model.specs.Number.{number}
 use Rattle.model.specs.Tree.{Expr, Exprs, exprs, place_of, Rule, Book, Action, Every, all_rules, rules_of}
 use Rattle.model.specs.Tree.Expr.{always, negation, conjunction, leaf}
@@ -23,6 +23,7 @@ use Rattle.model.specs.Edges.{edges, edges_all, rules_edges, book_edges}
 use Rattle.model.proofs.Tests.{tests, when_cases}
 use Rattle.model.proofs.EveryRule.{every_append}
 use Rattle.model.proofs.LoopsExact.{lowest_none}
+use Rattle.model.proofs.Branches.{expression_kinds, actions}
 use Rattle.model.proofs.Success.{Fine, fine_is, Got, got_after, got_as, got_when, got_either, Onward, both, Moved, number_got, within_got, end_got, each_got}
 
 -- so many edges are read: two for each kind 3 counted, and the count keeps its limit
@@ -84,7 +85,7 @@ source_got start s st = got_when (ltb st.sources sources_most) _ _ _ (λ e. (ref
 pub expression_got : (levels : ℕ) (s : List ℕ) (st : Stand) → Got (expression levels s st) (ExpressionRead s st)
 unfolding expression edges
 expression_got zero s st = tt
-expression_got (suc levels) s st = got_after (number s st) _ _ (number_got s st) (λ kind st₁ p. elim kind [
+expression_got (suc levels) s st = got_after (number s st) _ _ (number_got s st) (λ kind st₁ p. elim kind as (λ k. Got (choose k (expression_kinds levels st.at) (refuse 4 st.at) s st₁) (ExpressionRead s st)) [
   | zero ↦ record { onward = p.onward; place = refl; rises = tt; grown = steady p.sources }
   | suc zero ↦
       got_after (expression levels s st₁) _ _ (expression_got levels s st₁) (λ e st₂ q. record {
@@ -141,7 +142,7 @@ called_got n s st = got_after (number s st) _ _ (number_got s st) (λ c st₁ p.
     got_either (ltb zero c && ltb c n) _ _ s st₁ _ (λ e. let k = (and-eq-true_iff (ltb zero c) (ltb c n)).0 e in ((ltb-true zero c k.0, ltb-true c n k.1), p)) (λ e. tt))
 
 pub action_got : (n : ℕ) (s : List ℕ) (st : Stand) → Got (action_in n s st) (λ a st'. ActionFine n a × Moved s st st')
-action_got n s st = got_after (number s st) _ _ (number_got s st) (λ a st₁ p. elim a [
+action_got n s st = got_after (number s st) _ _ (number_got s st) (λ a st₁ p. elim a as (λ k. Got (choose k (actions n) (refuse 4 st.at) s st₁) (λ x st'. ActionFine n x × Moved s st st')) [
   | zero ↦ (tt, p)
   | suc zero ↦ (tt, p)
   | suc (suc zero) ↦ (tt, p)

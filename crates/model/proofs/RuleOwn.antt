@@ -10,14 +10,15 @@ use lib.ListN.{length, length-take, length-drop}
 use lib.ListN as lists
 use Rattle.model.specs.Limits.{levels_most}
 use Rattle.model.specs.Answer.{fine, when}
-use Rattle.model.specs.Reader.{Stand}
-use Rattle.model.specs.Number.{number}
+use Rattle.model.specs.Reader.{refuse, choose, Stand}
+use Rattle.model.specs.Number.{number, number_at, numeral}
 use Rattle.model.specs.Tree.{Rule, Book, Action, rules_of, Every}
 use Rattle.model.specs.Tree.Action.{accept, drop, reject, log, empty, return, call}
 use Rattle.model.specs.Book.{expression, called_chain, action_in, rule, book_of}
 use Rattle.model.specs.Calls.{readable}
 use Rattle.model.specs.Standing.{Row, Stands, action_row, RuleWritten}
 use Rattle.model.specs.Entries.{rule_of, own_bytes, rule_entry}
+use Rattle.model.proofs.Branches.{actions}
 use Rattle.model.proofs.Success.{Got, got_after, got_either, fine_is, fine_same, behind}
 use Rattle.model.proofs.Standing.{number_stands, expression_stands}
 use Rattle.model.proofs.NumberPast.{number_past}
@@ -30,7 +31,7 @@ called_row n s st = got_after (number s st) _ _ (number_stands s st) (λ c st₁
     got_either (ltb zero c && ltb c n) _ _ s st₁ _ (λ e. record { next = st₁.at; stands = p; rest = refl }) (λ e. tt))
 
 action_row_lem : (n : ℕ) (s : List ℕ) (st : Stand) → Got (action_in n s st) (λ a st'. Row s st.at (action_row a) st'.at)
-action_row_lem n s st = got_after (number s st) _ _ (number_stands s st) (λ a st₁. elim a [
+action_row_lem n s st = got_after (number s st) _ _ (number_stands s st) (λ a st₁. elim a as (λ k. number_at s st.at ≡ numeral k st₁.at → Got (choose k (actions n) (refuse 4 st.at) s st₁) (λ a st'. Row s st.at (action_row a) st'.at)) [
   | zero ↦ λ p. record { next = st₁.at; stands = p; rest = refl }
   | suc zero ↦ λ p. record { next = st₁.at; stands = p; rest = refl }
   | suc (suc zero) ↦ λ p. record { next = st₁.at; stands = p; rest = refl }
