@@ -65,10 +65,10 @@ module _ (c : PlanContents) (vs : List Val) (g : Is (row the_type) c vs) (shape 
   count = get_or c.first (i + 1) 0 - get_or c.first i 0
 
   low_slots : length c.low ≡ slots
-  low_slots = sym (length-map c.low _) ∙ g.1.1.1.1.1.0.1.0.1
+  low_slots = g.1.1.1.1.1.0.1.0.1
 
   high_slots : length c.high ≡ slots
-  high_slots = sym (length-map c.high _) ∙ g.1.1.1.1.1.1.0.1.0.1
+  high_slots = g.1.1.1.1.1.1.0.1.0.1
 
   all_listed : Listed c.low c.high from (ranges_at c i)
   all_listed = let r = shape.rising i lt in let n = shape.inside i lt in spans_listed c.low c.high from count (omega (arith, low_slots)) (omega (arith, high_slots))

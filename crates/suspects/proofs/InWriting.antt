@@ -22,10 +22,10 @@ use Rattle.suspects.proofs.Chains.{span}
 
 -- a value has as many slots as its type says: what is known of a parameter (`c.good`) has it
 pub low_slots : (s : Suspects) (vs : List Val) → Is (row the_type) s vs → length s.low ≡ spans_most
-low_slots s vs g = sym (length-map s.low _) ∙ g.1.1.1.0.1.0.1
+low_slots s vs g = g.1.1.1.0.1.0.1
 
 pub high_slots : (s : Suspects) (vs : List Val) → Is (row the_type) s vs → length s.high ≡ spans_most
-high_slots s vs g = sym (length-map s.high _) ∙ g.1.1.1.1.0.1.0.1
+high_slots s vs g = g.1.1.1.1.0.1.0.1
 
 drop_next : (l : List ℕ) (i : ℕ) → i < length l → drop i l ≡ get_or l i 0 ∷ drop (i + 1) l
 drop_next l i h = rw add-one (drop-cons l i 0 h)

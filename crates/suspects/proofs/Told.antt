@@ -109,8 +109,8 @@ listed_from a b at h k (s ∷ ss) c d = (
     low_is = get_or_at a s.low (lows ss ++ c) 0 at h;
     high_is = get_or_at b s.high (highs ss ++ d) 0 at k;
   },
-  rw (← append_snoc a s.low (lows ss ++ c), ← append_snoc b s.high (highs ss ++ d))
-      (listed_from (a ++ (s.low ∷ [])) (b ++ (s.high ∷ [])) (suc at) (omega (arith, length-append a (s.low ∷ []))) (omega (arith, length-append b (s.high ∷ []))) ss c d),
+  subst (λ x. Listed x (b ++ (s.high ∷ (highs ss ++ d))) (suc at) ss) (append_snoc a s.low (lows ss ++ c)) (subst (λ y. Listed ((a ++ (s.low ∷ [])) ++ (lows ss ++ c)) y (suc at) ss) (append_snoc b s.high (highs ss ++ d))
+      (listed_from (a ++ (s.low ∷ [])) (b ++ (s.high ∷ [])) (suc at) (omega (arith, length-append a (s.low ∷ []))) (omega (arith, length-append b (s.high ∷ []))) ss c d)),
 )
 
 pub slots_listed : (most : ℕ) (ss : Spans) (n : ℕ) (low high : List ℕ) → Slots most ss n low high → Listed low high 0 ss

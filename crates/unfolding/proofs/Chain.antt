@@ -87,25 +87,25 @@ module _ (first action target expression : List ℕ) (c d : ℕ) (ctx₀ : List 
       kept_own : take m own ≡ take m ctx
       kept_own = take-set-le m ctx m (own_at expression i) (omega arith)
 
-      own_at : get_or own m 0 ≡ own_at expression i
-      own_at = get_or-set_same ctx m (own_at expression i) 0 slot
+      own_at_lem : get_or own m 0 ≡ own_at expression i
+      own_at_lem = get_or-set_same ctx m (own_at expression i) 0 slot
 
       fits : to + length (Puts action target expression run (take m ctx) i) ≤ length w
       fits = going_room action target expression run start end n at ctx₀ w₀ i m to ctx w g lt room
 
       module _ (h : ¬ (get_or action i 0 ≡ 6)) where
         plain_words : own_words (get_or action i 0) i own m ≡ Puts action target expression run (take m ctx) i
-        plain_words = ap₂ (λ cs o. rule_words (λ cs c. []) cs i o (action_of (get_or action i 0) 0)) kept_own own_at ∙ (plain run (take m ctx) i (own_at expression i) (get_or action i 0) (get_or target i 0) h).0
+        plain_words = ap₂ (λ cs o. rule_words (λ cs c. []) cs i o (action_of (get_or action i 0) 0)) kept_own own_at_lem ∙ (plain run (take m ctx) i (own_at expression i) (get_or action i 0) (get_or target i 0) h).0
 
         plain_after : after (take m own) (get_or own m 0) (action_of (get_or action i 0) 0) ≡ Leaves action target expression run (take m ctx) i
-        plain_after = ap₂ (λ cs o. after cs o (action_of (get_or action i 0) 0)) kept_own own_at ∙ (plain run (take m ctx) i (own_at expression i) (get_or action i 0) (get_or target i 0) h).1
+        plain_after = ap₂ (λ cs o. after cs o (action_of (get_or action i 0) 0)) kept_own own_at_lem ∙ (plain run (take m ctx) i (own_at expression i) (get_or action i 0) (get_or target i 0) h).1
 
         pub enter_pre : EnterPre (get_or action i 0) i own m w to
         enter_pre = record {
           plain = h;
           slot = rw length-set slot;
           few = rw (length-set, g.scratch) p.few;
-          near = omega (arith, own_at, near);
+          near = omega (arith, own_at_lem, near);
           room = omega (arith, fits, ap length plain_words);
         }
 

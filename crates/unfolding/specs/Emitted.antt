@@ -29,8 +29,8 @@ after cs own return = cs ++ ((own + 1) ∷ [])
 after cs own (call c) = cs
 
 -- the match of rule i, not negated
-abbrev pub field_own : List ℕ → ℕ → ℕ
-field_own expression i = 2 * get_or expression i 0
+abbrev pub own_at : List ℕ → ℕ → ℕ
+own_at expression i = 2 * get_or expression i 0
 
 abbrev pub action_at : List ℕ → List ℕ → ℕ → Action
 action_at action target i = action_of (get_or action i 0) (get_or target i 0)
@@ -39,7 +39,7 @@ action_at action target i = action_of (get_or action i 0) (get_or target i 0)
 unfoldable pub rules_words : (action target expression : List ℕ) → (List ℕ → ℕ → List ℕ) → List ℕ → ℕ → ℕ → List ℕ
 rules_words action target expression run cs i zero = []
 rules_words action target expression run cs i (suc left) =
-    rule_words run cs i (field_own expression i) (action_at action target i) ++ rules_words action target expression run (after cs (field_own expression i) (action_at action target i)) (i + 1) left
+    rule_words run cs i (own_at expression i) (action_at action target i) ++ rules_words action target expression run (after cs (own_at expression i) (action_at action target i)) (i + 1) left
 
 -- chain c, calls nesting at most d deep
 unfoldable pub chain_words : (first action target expression : List ℕ) → ℕ → List ℕ → ℕ → List ℕ
