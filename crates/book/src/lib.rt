@@ -20,10 +20,10 @@ pub const STARTS: usize = CHAINS + 1;
 pub const RULES: usize = 1024;
 
 // A chain number and a rule number are kinds of their own: a call cannot name a rule.
-#[derive(Drop)]
+#[derive(Clone, Copy)]
 pub struct ChainNumber(pub u32);
 
-#[derive(Drop)]
+#[derive(Clone, Copy)]
 pub struct RuleNumber(pub u32);
 
 // What everything above needs of a book, so that it is never scanned again. Chain c has the rules from first[c] up to, not with,
@@ -58,14 +58,14 @@ pub struct BookAnswer {
 pub const BYTES: usize = 65535;
 
 // What reading an action finds: its number, the chain that it calls (0 where it calls none), and the place after it.
-#[derive(Drop)]
+#[derive(Clone, Copy)]
 pub enum ActionRead {
     Got(u8, ChainNumber, usize),
     Refused(u32, usize),
 }
 
 // A rule as its reading leaves it: what is noted of it, and the kinds 3 counted so far.
-#[derive(Drop)]
+#[derive(Clone, Copy)]
 pub struct RuleSeen {
     pub action: u8,
     pub called: ChainNumber,
@@ -74,14 +74,14 @@ pub struct RuleSeen {
     pub sources: u32,
 }
 
-#[derive(Drop)]
+#[derive(Clone, Copy)]
 pub enum RuleRead {
     Got(RuleSeen),
     Refused(u32, usize),
 }
 
 // What reading the chains finds: the place after them, and how many rules they have.
-#[derive(Drop)]
+#[derive(Clone, Copy)]
 pub enum ChainsRead {
     Got(usize, usize),
     Refused(u32, usize),

@@ -24,13 +24,13 @@ pub const WEIGHT: u32 = 16384;
 const HEAVY: u32 = WEIGHT + 1;
 
 // The lowest chain that reaches itself.
-#[derive(Drop)]
+#[derive(Clone, Copy)]
 pub enum Loops {
     At(ChainNumber),
     None,
 }
 
-#[derive(Drop)]
+#[derive(Clone, Copy)]
 pub enum CallCheck {
     Fine,
     Loop(ChainNumber),

@@ -6,7 +6,7 @@ use book::{BookRead, CHAINS, Contents, read_book};
 use calls::{CallCheck, check_calls, ranks, reached};
 
 // No refusal, or its number and place.
-#[derive(Drop)]
+#[derive(Clone, Copy)]
 pub enum Reading {
     Fine,
     Refused(u32, usize),

@@ -7,7 +7,7 @@ ghost use Rattle.expressions.specs.Told.{told, stand, twice, Plain};
 use numbers::{LARGEST, NumberRead, read_field, read_number};
 
 // What reading an expression finds: the place after it and the kinds 3 counted so far, or the refusal's number and place.
-#[derive(Drop)]
+#[derive(Clone, Copy)]
 pub enum ExpressionRead {
     Got(usize, u32),
     Refused(u32, usize),

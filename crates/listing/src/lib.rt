@@ -13,7 +13,7 @@ use room::room;
 use unfolding::unfold;
 
 // How many words and rules the list has, or the refusal's number and place.
-#[derive(Drop)]
+#[derive(Clone, Copy)]
 pub enum Listed {
     Counts(usize, usize),
     Refused(u32, usize),

@@ -24,7 +24,7 @@ const PORTS_MOST: u64 = PORTS as u64;
 
 const RANGES_MOST: u64 = 64;
 
-#[derive(Drop)]
+#[derive(Clone, Copy)]
 pub enum PlanRead {
     Fine,
     Refused(u32, usize),
@@ -48,28 +48,28 @@ pub struct PlanAnswer {
 }
 
 // Where in the contents the asked port stands.
-#[derive(Drop)]
+#[derive(Clone, Copy)]
 pub enum Asked {
     At(usize),
     Missing,
 }
 
 // The place after what was read, or that of the first bad number. Which fault it is does not matter: all are refusal 11.
-#[derive(Drop)]
+#[derive(Clone, Copy)]
 enum PlanStep {
     Next(usize),
     Bad(usize),
 }
 
 // A port's number, its count of ranges and the place after them.
-#[derive(Drop)]
+#[derive(Clone, Copy)]
 enum PortRead {
     Got(u32, u32, usize),
     Bad(usize),
 }
 
 // The count of ports and the place after it.
-#[derive(Drop)]
+#[derive(Clone, Copy)]
 enum CountRead {
     Got(u32, usize),
     Bad(usize),

@@ -82,7 +82,7 @@ pub fn next_expression<'s, 'a>(r: &'s mut Reader<'a>, levels: u32, sources: u32)
 }
 
 // A number and the expression behind it: what a rule is that calls no chain. `next` is the place after both.
-#[derive(Drop)]
+#[derive(Clone, Copy)]
 pub struct Pair {
     pub number: NumberRead,
     pub expression: ExpressionRead,

@@ -31,7 +31,7 @@ const LINE: usize = 91;
 pub const BUFFER: usize = HEADER + COUNTS + PORTS * LINE;
 
 // How many bytes the report has: they were written, or the lent text is too short for them.
-#[derive(Drop)]
+#[derive(Clone, Copy)]
 pub enum Reported {
     Bytes(usize),
     Short(usize),

@@ -14,7 +14,7 @@ pub mod slices;
 pub mod whole;
 
 // Refused with the rule that may accept a suspect, and the lowest suspect that it may accept.
-#[derive(Drop)]
+#[derive(Clone, Copy)]
 pub enum Phase {
     Running,
     Certified,
@@ -45,7 +45,7 @@ pub struct Started {
 }
 
 // What the whole review answers: about the port, or a refusal's number and place.
-#[derive(Drop)]
+#[derive(Clone, Copy)]
 pub enum Reviewed {
     Certified,
     Refused(RuleNumber, u32),
@@ -53,7 +53,7 @@ pub enum Reviewed {
 }
 
 // What one rule does: it refuses, or leaves so many ranges of suspects; more than there are slots where they have no room.
-#[derive(Drop)]
+#[derive(Clone, Copy)]
 pub enum Taken {
     Refused(RuleNumber, u32),
     Left(usize),

@@ -30,7 +30,7 @@ const WEIGHT: usize = calls::WEIGHT as usize;
 const MOST: usize = WEIGHT * (WEIGHT + HEAD);
 
 // Of a chain under no condition of its callers, or of the whole list.
-#[derive(Drop)]
+#[derive(Clone, Copy)]
 pub struct Need {
     pub rules: usize,
     pub words: usize,

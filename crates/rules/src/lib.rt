@@ -12,7 +12,7 @@ use book::{Contents, RuleNumber};
 use checking::{Reading, check};
 
 // Where the rule starts and where it ends, or the refusal's number and place.
-#[derive(Drop)]
+#[derive(Clone, Copy)]
 pub enum RuleAnswer {
     At(usize, usize),
     Refused(u32, usize),

@@ -12,7 +12,7 @@ const LAST: u32 = 4294967295;
 // Behind the last address.
 const END: u64 = LAST as u64 + 1;
 
-#[derive(Drop)]
+#[derive(Clone, Copy)]
 pub struct Suspects {
     pub count: usize,
     pub low: [u32; Suspects::MAX],

@@ -10,14 +10,14 @@ use matching::{Asking, Held, eval_conditions};
 use suspects::{Suspects, push};
 
 // How many ranges there are now, and the first source that is not yet looked at.
-#[derive(Drop)]
+#[derive(Clone, Copy)]
 pub struct Next {
     pub count: usize,
     pub source: u64,
 }
 
 // The lowest suspect that an accept rule may accept.
-#[derive(Drop)]
+#[derive(Clone, Copy)]
 pub enum Lowest {
     At(u32),
     Nothing,

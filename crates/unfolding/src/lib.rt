@@ -33,7 +33,7 @@ fn write_rule(
 }
 
 // After a rule: how many conditions stand before the next one, and where the next list rule goes.
-#[derive(Drop)]
+#[derive(Clone, Copy)]
 struct Step {
     conditions: usize,
     to: usize,

@@ -19,7 +19,7 @@ use walks::Packet;
 const ANSWERS: usize = 32;
 
 // Or the refusal's number and place.
-#[derive(Drop)]
+#[derive(Clone, Copy)]
 pub enum Verdict {
     Accept,
     Drop,

@@ -11,7 +11,7 @@ use book::{ChainNumber, RULES, RuleNumber, STARTS};
 use matching::{Asking, eval_conditions, eval_expression};
 
 // Each of any value. `service` is the destination port number, `port` the input port: one above 31 equals none in a book.
-#[derive(Drop)]
+#[derive(Clone, Copy)]
 pub struct Packet {
     pub source: u32,
     pub destination: u32,
@@ -21,7 +21,7 @@ pub struct Packet {
 }
 
 // What a chain comes to.
-#[derive(Drop)]
+#[derive(Clone, Copy)]
 pub enum Outcome {
     Accepted,
     Denied,
@@ -29,7 +29,7 @@ pub enum Outcome {
 }
 
 // What a rule does to its chain: ends it, or leaves it to the rules behind.
-#[derive(Drop)]
+#[derive(Clone, Copy)]
 pub enum Step {
     End(Outcome),
     On,
