@@ -1,4 +1,6 @@
 // Reads a book: the whole grammar of document 01, refusals 1 to 8.
+#![tactic(auto)]
+
 ghost use Rattle.std.specs.Prelude.{◌≡◌, ◌≤◌, length};
 ghost use Rattle.model.specs.Limits.{book_bytes, chains_most};
 ghost use Rattle.model.specs.Book.{book_of};

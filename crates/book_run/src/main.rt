@@ -1,4 +1,6 @@
 // Checks books, each boundary of document 01 among them, and writes what was found: the counts, or the refusal.
+#![tactic(auto)]
+
 mod deep;
 mod header;
 mod long;

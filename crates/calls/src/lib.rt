@@ -1,4 +1,6 @@
 // Which chain reaches itself by calls, how calls rank, and whether the entry is too heavy: over a read book's contents.
+#![tactic(auto)]
+
 ghost use Rattle.std.specs.Prelude.{◌≡◌, ◌&&◌, ◌||◌, ℕ, ◌+◌, ◌^◌, ◌<◌, ◌≤◌, length, get_or, eqb, ltb};
 ghost use Rattle.model.specs.Tree.{Book};
 ghost use Rattle.model.specs.Reader.{Stand, got};

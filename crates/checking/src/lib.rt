@@ -1,4 +1,6 @@
 // Reads a book whole, as every entry does first: refusals 1 to 8, then 9, then 10.
+#![tactic(auto)]
+
 ghost use Rattle.std.specs.Prelude.{◌≡◌};
 ghost use Rattle.checking.specs.Checks.{judgement, Checks};
 

@@ -1,4 +1,6 @@
 // Reads a match expression of a book: an expression and its list of operands are read in turns.
+#![tactic(auto)]
+
 ghost use Rattle.std.specs.Prelude.{◌≡◌, ℕ, suc};
 ghost use Rattle.model.specs.Reader.{each};
 ghost use Rattle.model.specs.Book.{within, expression};

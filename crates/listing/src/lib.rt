@@ -1,4 +1,6 @@
 // Unfolds a book into lent words: refusals 1 to 10, then 13.
+#![tactic(auto)]
+
 ghost use Rattle.std.specs.Prelude.{◌≡◌, List, ℕ, length};
 ghost use Rattle.model.specs.Answer.{fine};
 ghost use Rattle.model.specs.Tree.{Book};

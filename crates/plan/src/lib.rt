@@ -1,4 +1,6 @@
 // Reads an address plan: refusals 11 and 12.
+#![tactic(auto)]
+
 ghost use Rattle.std.specs.Prelude.{◌≡◌, ◌+◌, ◌≤◌};
 ghost use Rattle.model.specs.Limits.{ports_most, ranges_most};
 ghost use Rattle.model.specs.Plan.{plan_of, ports_from, ranges_from};

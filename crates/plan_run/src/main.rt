@@ -1,3 +1,5 @@
+#![tactic(auto)]
+
 // Reads some plans, each boundary of document 01 among them, and writes what was found: the counts, or the refusal.
 fn line(text: &[u8], n: u64) {
     io::write_all(1, text);

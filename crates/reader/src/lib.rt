@@ -1,5 +1,7 @@
 // A reader record: it keeps the lent book with its place. Each function takes the record apart and calls the covered reader.
 // `read_pair`, at the end, has plain parameters and the record inside: whoever calls it needs no proof by hand.
+#![tactic(auto)]
+
 ghost use Rattle.std.specs.Prelude.{◌≡◌, ℕ, drop};
 ghost use Rattle.model.specs.Number.{number_at};
 ghost use Rattle.reader.specs.Moved.{number_told, expression_at, past_number, past_expression, number_from, after_number, expression_from, after_expression};

@@ -1,5 +1,7 @@
 // Reads the book of case C1 through `reader::read_pair`, whose parameters are plain, so no function here is proved by hand:
 // its numbers one after the other up to its end, then the expressions of its two rules.
+#![tactic(auto)]
+
 use expressions::{ExpressionRead, LEVELS};
 use numbers::NumberRead;
 

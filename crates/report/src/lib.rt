@@ -1,4 +1,6 @@
 // The report on a book and a plan, byte by byte.
+#![tactic(auto)]
+
 ghost use Rattle.std.specs.Prelude.{◌≡◌, ◌+◌, ◌*◌, ◌≤◌, ◌<◌, length};
 ghost use Rattle.model.specs.Limits.{ports_most};
 ghost use Rattle.model.specs.Report.{report as reportText};

@@ -1,5 +1,7 @@
 // Reports on books and plans, byte by byte: document 01's cases, each refusal that a report can show, ports with the rules and sources that
 // refuse them, and words and text that are one too few and just enough.
+#![tactic(auto)]
+
 mod books;
 mod cases;
 mod plans;

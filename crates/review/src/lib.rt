@@ -1,4 +1,6 @@
 // The review of one port: whole, and in slices.
+#![tactic(auto)]
+
 ghost use Rattle.sweep.specs.Sweep.{Kept};
 ghost use Rattle.review.specs.Taken.{HasRule, TakesRule};
 

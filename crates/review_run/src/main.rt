@@ -1,5 +1,7 @@
 // Reviews ports whole and in slices: document 01's cases, four books that tell a return and a negation, refusals, and states and lists that a
 // caller damaged.
+#![tactic(auto)]
+
 use damaged::{finished_states, places, states};
 use full::full_states;
 use listing::Listed;

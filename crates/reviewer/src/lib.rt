@@ -1,5 +1,7 @@
 // Every entry once, for C to call. Nothing is kept between two calls, no function asks anything of its caller, and each states all lent
 // memory after it.
+#![tactic(auto)]
+
 mod books;
 mod reporting;
 mod reviews;

@@ -1,4 +1,6 @@
 // How many rules and words the unfolded list needs, without unfolding: over a read book's contents, each chain counted once.
+#![tactic(auto)]
+
 ghost use Rattle.std.specs.Prelude.{◌≡◌, ℕ, ◌+◌, ◌<◌, ◌≤◌, List, get_or};
 ghost use Rattle.model.specs.Limits.{chains_most};
 ghost use Rattle.model.specs.Tree.{Book};

@@ -1,4 +1,6 @@
 // A rule by number: the part of the book that is its own bytes, and beside it where they stand or why there are none.
+#![tactic(auto)]
+
 ghost use Rattle.std.specs.Prelude.{ℕ, ◌≤◌, List, ◌≡◌};
 ghost use Rattle.model.specs.Limits.{rules_most};
 ghost use Rattle.model.specs.Answer.{fine};

@@ -1,4 +1,6 @@
 // Reviews every port of `plan.bin` against `book.bin`, both in the folder that it is run in, and writes the report.
+#![tactic(auto)]
+
 ghost use Rattle.io.specs.Counts.{IsPrefixLen};
 
 use libc::STDOUT_FILENO;

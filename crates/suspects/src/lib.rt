@@ -1,4 +1,6 @@
 // The set of suspects: rising ranges, neither touching nor overlapping, in slots of which the unused are 0.
+#![tactic(auto)]
+
 ghost use Rattle.std.specs.Prelude.{◌≡◌, ℕ, ◌+◌, ◌≤◌, false, [], length, take, drop};
 ghost use Rattle.model.specs.Limits.{greatest, ranges_most, spans_most};
 ghost use Rattle.model.specs.Spans.{one};

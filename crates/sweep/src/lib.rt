@@ -1,4 +1,6 @@
 // What one rule of the list does to the suspects. A range is walked from horizon to horizon: the rule's conditions have one value up to each.
+#![tactic(auto)]
+
 ghost use Rattle.std.specs.Prelude.{◌≡◌, false, [], ◌≤◌, min};
 ghost use Rattle.model.specs.Limits.{spans_most};
 ghost use Rattle.matching.specs.Conditions.{Writing};

@@ -1,4 +1,6 @@
 // Appends to a lent buffer: each function answers the place behind what it wrote.
+#![tactic(auto)]
+
 ghost use Rattle.std.specs.Prelude.{◌+◌, ◌≤◌, length, ◌∷◌};
 ghost use Rattle.model.specs.Report.{digits, decimal, dotted};
 ghost use Rattle.text.specs.Puts.{Puts, dotted_most, decimal_most};

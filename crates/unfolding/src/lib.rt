@@ -1,4 +1,6 @@
 // Writes a book's unfolded list into lent words, over the book's contents. How many words it needs is known before: here they are there.
+#![tactic(auto)]
+
 ghost use Rattle.std.specs.Prelude.{◌≡◌, ◌+◌, length, take};
 ghost use Rattle.model.specs.Filling.{put};
 ghost use Rattle.unfolding.specs.Emitted.{entry};

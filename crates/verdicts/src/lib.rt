@@ -1,4 +1,6 @@
 // The verdicts, as entries: the book is read first, so that every refusal comes in its order.
+#![tactic(auto)]
+
 ghost use Rattle.std.specs.Prelude.{◌≡◌, length, List, ℕ, ◌≤◌};
 ghost use Rattle.model.specs.Answer.{fine};
 ghost use Rattle.model.specs.Tree.{Book};

@@ -1,5 +1,7 @@
 // Unfolds some books, judges some packets and reads some rules by number: document 01's C1, C7, C8 and C9, the boundaries of words,
 // answers and rule numbers, and the books that tell a return's scope.
+#![tactic(auto)]
+
 use book::RuleNumber;
 use listing::Listed;
 use rules::RuleAnswer;

@@ -1,4 +1,6 @@
 // The verdict of a book's chains and of its unfolded list, out of the bytes and contents of a book that was read.
+#![tactic(auto)]
+
 ghost use Rattle.std.specs.Prelude.{◌≡◌};
 ghost use Rattle.model.specs.Ternary.{Tri};
 ghost use Rattle.model.specs.Verdict.{taken};
