@@ -1,0 +1,31 @@
+-- `matching::eval_leaf` meets its contract. Assumes nothing.
+use Prim.Native.Nat.{◌≤◌}
+use native.Mathlib.Omega.{arith}
+use Rattle.matching.proofs.Inside.{LeafAt, inside_leaf, first_legible, second_legible, by_always, by_one, by_two}
+use Rattle.model.specs.Limits.{greatest}
+use borrow.Author.Rules.{rules}
+use Rattle.matching.proofs.eval_leaf.Goals as goal
+
+pub returns-then-kind-eq0 : goal.returns-then-kind-eq0
+returns-then-kind-eq0 c =
+    let fits : c.args.source ≤ greatest = omega (arith, c.ranges.source) in
+    by_always c.args.a c.args.source c.args.s.now c.args.answers.now c.args.at c.args.kind _ c.if-kind-eq0.true (fits)
+
+pub number_here-first-requires : goal.number_here-first-requires
+number_here-first-requires c =
+    let leaf : let a = c.args in LeafAt a.s.now a.kind a.at = inside_leaf c.args.s.now c.args.kind c.args.at c.if-kind-eq0.false c.requires.1.0 c.requires.1.1 c.requires.0 in
+    first_legible _ _ _ (leaf)
+
+pub returns-then-kind-eq0-2 : goal.returns-then-kind-eq0-2
+returns-then-kind-eq0-2 c =
+    let fits : c.args.source ≤ greatest = omega (arith, c.ranges.source) in
+    by_one c.args.s.now c.args.kind c.args.at c.if-kind-eq0.false c.requires.1.0 c.requires.1.1 _ _ c.number_here-first.ensures c.args.a c.args.source c.args.answers.now c.if-kind-eq0-2.true _ _ (fits) c.one_field.ensures
+
+pub number_here-second-requires : goal.number_here-second-requires
+number_here-second-requires c =
+    let leaf : let a = c.args in LeafAt a.s.now a.kind a.at = inside_leaf c.args.s.now c.args.kind c.args.at c.if-kind-eq0.false c.requires.1.0 c.requires.1.1 c.requires.0 in
+    second_legible _ _ _ _ _ c.number_here-first.ensures c.if-kind-eq0-2.false (leaf)
+
+pub returns : goal.returns
+returns c =
+    by_two c.args.s.now c.args.kind c.args.at c.if-kind-eq0.false c.requires.1.0 c.requires.1.1 _ _ c.number_here-first.ensures c.args.a c.args.source c.args.answers.now c.if-kind-eq0-2.false _ _ c.number_here-second.ensures c.two_fields.result c.two_fields.ensures
