@@ -34,7 +34,7 @@ pub enum PlanRead {
 
 // A plan's ports in order: the number of each, and its ranges, which are those from first[i] up to, not with, first[i + 1]. Slots that
 // are not used are 0, and of a refused plan all are.
-#[derive(Drop)]
+#[derive(Clone, Copy)]
 pub struct PlanContents {
     pub ports: usize,
     pub number: [u32; PORTS],
