@@ -1,0 +1,22 @@
+-- The port's suspects, and its review over the list.
+use native.Mathlib.Omega.{arith}
+use Rattle.report.proofs.PortLoop.{plan_shape}
+use Rattle.report.proofs.Reviewing.{reviewable, reviewed}
+use Rattle.report.proofs.review_port.Goals as goal
+
+pub port_suspects-suspects-requires : goal.port_suspects-suspects-requires
+port_suspects-suspects-requires c = (plan_shape c.args.plan c.requires.1, c.requires.2)
+
+pub offset_bounds-number-i : goal.offset_bounds-number-i
+offset_bounds-number-i c = omega (arith, (plan_shape c.args.plan c.requires.1).few, c.requires.2)
+
+pub bounds-number-i : goal.bounds-number-i
+bounds-number-i c = omega (arith, (plan_shape c.args.plan c.requires.1).few, c.requires.2)
+
+pub review_list-requires : goal.review_list-requires
+review_list-requires c =
+    reviewable c.args.book.now c.args.words.now c.args.count c.requires.0 c.args.plan c.requires.1 c.args.i c.requires.2 c.port_suspects-suspects.result c.port_suspects-suspects.ensures
+
+pub returns : goal.returns
+returns c =
+    reviewed c.args.book.now c.args.words.now c.args.count c.requires.0 c.args.plan c.requires.1 c.args.i c.requires.2 c.port_suspects-suspects.result c.port_suspects-suspects.ensures c.review_list.result c.review_list.ensures
