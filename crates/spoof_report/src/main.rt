@@ -3,7 +3,9 @@
 
 ghost use Rattle.io.specs.Counts.{IsPrefixLen};
 
-use libc::STDOUT_FILENO;
+use std::fs::File;
+use std::io::{Error, Read, Result, Write};
+use std::rt::Files;
 
 // A byte more than a book or a plan may have, so that one that is too long is seen to be.
 const BOOK: usize = book::BYTES + 1;
@@ -15,46 +17,47 @@ const WORDS: usize = 16384;
 // Room for any report.
 const TEXT: usize = report::BUFFER;
 
-// A file that is missing or cannot be read to its end counts as empty.
-fn load(path: &[u8], bytes: &mut [u8]) -> usize
+// Fills bytes from the start. A file that cannot be read to its end counts as empty.
+fn fill<F: Read>(file: &mut F, bytes: &mut [u8]) -> usize
     ensures { IsPrefixLen result bytes.new }
 {
-    let fd = os::open_read(path);
-    if fd < 0 {
-        return 0;
-    }
-    let n = io::read_full(fd, bytes);
-    let mut more = [0u8; 1];
-    let got = libc::read(fd, &mut more);
-    libc::close(fd);
-    if n < bytes.len() {
-        if got != 0 {
-            return 0;
+    let mut n = 0;
+    while n < bytes.len() {
+        match file.read(&mut bytes[n..]) {
+            Ok(0) => return n,
+            Ok(more) => n += more,
+            Err(_) => return 0,
         }
     }
     n
 }
 
-fn write_report(book: &[u8], plan: &[u8]) {
-    let mut words = [0u32; WORDS];
-    let mut text = [0u8; TEXT];
-    match report::report(book, plan, &mut words, &mut text) {
-        report::Reported::Bytes(n) => {
-            let is_written = io::write_all(STDOUT_FILENO, &text[..n]);
-            if !is_written {
-                os::fail(b"write");
-            }
+// A file that is missing or cannot be read to its end counts as empty.
+fn load<R: Files>(rt: &R, path: &str, bytes: &mut [u8]) -> usize
+    ensures { IsPrefixLen result bytes.new }
+{
+    match File::open(rt, path) {
+        Ok(file) => {
+            let mut file = file;
+            fill(&mut file, bytes)
         }
-        report::Reported::Short(_) => {
-            os::fail(b"report");
-        }
+        Err(_) => 0,
     }
 }
 
-fn main() {
+fn write_report(rt: &HostRuntime, book: &[u8], plan: &[u8]) -> Result<()> {
+    let mut words = [0u32; WORDS];
+    let mut text = [0u8; TEXT];
+    match report::report(book, plan, &mut words, &mut text) {
+        report::Reported::Bytes(n) => rt.stdout().write_all(&text[..n]),
+        report::Reported::Short(_) => Err(Error::other("report")),
+    }
+}
+
+fn main(rt: HostRuntime) -> Result<()> {
     let mut book = [0u8; BOOK];
     let mut plan = [0u8; PLAN];
-    let b = load(b"book.bin", &mut book);
-    let p = load(b"plan.bin", &mut plan);
-    write_report(&book[..b], &plan[..p]);
+    let b = load(&rt, "book.bin", &mut book);
+    let p = load(&rt, "plan.bin", &mut plan);
+    write_report(&rt, &book[..b], &plan[..p])
 }
