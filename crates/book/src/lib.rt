@@ -31,7 +31,7 @@ pub struct RuleNumber(pub u32);
 // What everything above needs of a book, so that it is never scanned again. Chain c has the rules from first[c] up to, not with,
 // first[c + 1]. Of each rule: where it starts, the number of its action, the chain that it calls (0 where it calls none), where its
 // expression starts, and where it ends. Slots that are not used are 0.
-#[derive(Drop)]
+#[derive(Clone, Copy)]
 pub struct Contents {
     pub policy: u32,
     pub chains: usize,
@@ -45,7 +45,7 @@ pub struct Contents {
 }
 
 // What reading a book finds. The contents beside it are all 0 where the book is refused.
-#[derive(Drop)]
+#[derive(Clone, Copy)]
 pub enum BookRead {
     Fine,
     Refused(u32, usize),

@@ -1,5 +1,4 @@
 -- Paths into the laws of BookSteps.
-use borrow.Author.Rules.{rules}
 use mathlib.Core.Path.{sym, ◌∙◌, ap}
 use Rattle.numbers.specs.Told.{told}
 use Rattle.book.proofs.BookSteps.{policy_refused, policy_got}

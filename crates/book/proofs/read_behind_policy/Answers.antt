@@ -1,5 +1,4 @@
 -- Paths into the laws of BookSteps.
-use borrow.Author.Rules.{rules}
 use mathlib.Core.Path.{◌∙◌}
 use Rattle.book.proofs.BookSteps.{charting_none, chains_refused, bytes_after, all_read}
 use Rattle.book.proofs.read_behind_policy.Goals as goal

@@ -2,7 +2,6 @@
 use mathlib.Core.Path.{refl}
 use lib.ListN.{get_or-eq_default}
 use native.Mathlib.Nat.{zero-div}
-use borrow.Author.Rules.{rules}
 use Rattle.matching.proofs.answer.Goals as goal
 
 pub returns-then-answers-i : goal.returns-then-answers-i

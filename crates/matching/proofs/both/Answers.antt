@@ -1,6 +1,5 @@
 -- `matching::both` meets its contract. Assumes nothing.
 use Rattle.matching.proofs.Seeing.{both_first, both_second, both_least}
-use borrow.Author.Rules.{rules}
 use Rattle.matching.proofs.both.Goals as goal
 
 pub returns-then-a-b : goal.returns-then-a-b

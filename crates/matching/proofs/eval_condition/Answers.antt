@@ -1,7 +1,6 @@
 -- `matching::eval_condition` meets its contract. Assumes nothing.
 use Rattle.matching.proofs.Inside.{seen_most}
 use Rattle.matching.proofs.Conditions.{negated_sees, plain_sees}
-use borrow.Author.Rules.{rules}
 use Rattle.matching.proofs.eval_condition.Goals as goal
 
 pub overflow_sub-negated : goal.overflow_sub-negated

@@ -1,14 +1,11 @@
 -- `matching::eval_conditions` meets its contract. The loop's invariant: whatever conditions are written, those so far are seen, and the rest are
 -- written where reading goes on. Assumes nothing.
-use Prim.Native.Nat.{◌+◌, ◌-◌, ◌<◌}
 use mathlib.Core.List.{List}
-use mathlib.Core.Path.{◌≡◌, refl}
-use native.Mathlib.Omega.{arith}
-use borrow.Author.Rules.{rules}
+use mathlib.Core.Path.{◌≡◌}
 use lib.ListN.{length}
 use Rattle.model.specs.Unfolding.{Condition}
 use Rattle.matching.specs.Conditions.{Written}
-use Rattle.matching.proofs.Conditions.{Left, left_all, left_room, left_standing, left_more, left_no, left_none}
+use Rattle.matching.proofs.Conditions.{Left}
 use Rattle.matching.proofs.eval_conditions.Given as goal
 
 abbrev pub invariant-loop-left : goal.invariant-loop-left

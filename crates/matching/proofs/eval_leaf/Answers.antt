@@ -3,29 +3,34 @@ use Prim.Native.Nat.{◌≤◌}
 use native.Mathlib.Omega.{arith}
 use Rattle.matching.proofs.Inside.{LeafAt, inside_leaf, first_legible, second_legible, by_always, by_one, by_two}
 use Rattle.model.specs.Limits.{greatest}
-use borrow.Author.Rules.{rules}
 use Rattle.matching.proofs.eval_leaf.Goals as goal
 
 pub returns-then-kind-eq0 : goal.returns-then-kind-eq0
 returns-then-kind-eq0 c =
-    let fits : c.args.source ≤ greatest = omega (arith, c.ranges.source) in
-    by_always c.args.a c.args.source c.args.s.now c.args.answers.now c.args.at c.args.kind _ c.if-kind-eq0.true (fits)
+    let a = c.args in
+    by_always a.a a.source a.s.now a.answers.now a.at a.kind _ c.if-kind-eq0.true (omega (arith, c.ranges.source))
 
 pub number_here-first-requires : goal.number_here-first-requires
 number_here-first-requires c =
-    let leaf : let a = c.args in LeafAt a.s.now a.kind a.at = inside_leaf c.args.s.now c.args.kind c.args.at c.if-kind-eq0.false c.requires.1.0 c.requires.1.1 c.requires.0 in
-    first_legible _ _ _ (leaf)
+    let a = c.args in
+    let leaf : LeafAt a.s.now a.kind a.at = inside_leaf a.s.now a.kind a.at c.if-kind-eq0.false c.requires.1.0 c.requires.1.1 c.requires.0 in
+    first_legible _ _ _ leaf
 
 pub returns-then-kind-eq0-2 : goal.returns-then-kind-eq0-2
 returns-then-kind-eq0-2 c =
-    let fits : c.args.source ≤ greatest = omega (arith, c.ranges.source) in
-    by_one c.args.s.now c.args.kind c.args.at c.if-kind-eq0.false c.requires.1.0 c.requires.1.1 _ _ c.number_here-first.ensures c.args.a c.args.source c.args.answers.now c.if-kind-eq0-2.true _ _ (fits) c.one_field.ensures
+    let a = c.args in
+    let fits : a.source ≤ greatest = omega (arith, c.ranges.source) in
+    by_one a.s.now a.kind a.at c.if-kind-eq0.false c.requires.1.0 c.requires.1.1 _ _ c.number_here-first.ensures a.a a.source a.answers.now
+    c.if-kind-eq0-2.true _ _ fits c.one_field.ensures
 
 pub number_here-second-requires : goal.number_here-second-requires
 number_here-second-requires c =
-    let leaf : let a = c.args in LeafAt a.s.now a.kind a.at = inside_leaf c.args.s.now c.args.kind c.args.at c.if-kind-eq0.false c.requires.1.0 c.requires.1.1 c.requires.0 in
-    second_legible _ _ _ _ _ c.number_here-first.ensures c.if-kind-eq0-2.false (leaf)
+    let a = c.args in
+    let leaf : LeafAt a.s.now a.kind a.at = inside_leaf a.s.now a.kind a.at c.if-kind-eq0.false c.requires.1.0 c.requires.1.1 c.requires.0 in
+    second_legible _ _ _ _ _ c.number_here-first.ensures c.if-kind-eq0-2.false leaf
 
 pub returns : goal.returns
 returns c =
-    by_two c.args.s.now c.args.kind c.args.at c.if-kind-eq0.false c.requires.1.0 c.requires.1.1 _ _ c.number_here-first.ensures c.args.a c.args.source c.args.answers.now c.if-kind-eq0-2.false _ _ c.number_here-second.ensures c.two_fields.result c.two_fields.ensures
+    let a = c.args in
+    by_two a.s.now a.kind a.at c.if-kind-eq0.false c.requires.1.0 c.requires.1.1 _ _ c.number_here-first.ensures a.a a.source a.answers.now c.if-kind-eq0-2.false _ _
+    c.number_here-second.ensures c.two_fields.result c.two_fields.ensures

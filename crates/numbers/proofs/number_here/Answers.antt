@@ -1,9 +1,8 @@
 -- `numbers::number_here` meets its contract: the same steps as in read_number, none of which can refuse. Assumes nothing.
-use Prim.Native.Nat.{ℕ, ◌+◌, ◌-◌, ◌*◌, ◌^◌, ◌<◌, ◌≤◌}
+use Prim.Native.Nat.{ℕ, ◌+◌, ◌-◌, ◌*◌, ◌<◌, ◌≤◌}
 use mathlib.Core.Path.{◌≡◌, sym, ap, ◌∙◌}
-use borrow.Author.Rules.{rules}
 use native.Mathlib.Omega.{arith}
-use lib.ListN.{length, drop, get_or}
+use lib.ListN.{length, drop}
 use lib.Dec.{ltb}
 use mathlib.Core.Bool.{true}
 use Rattle.model.specs.Limits.{greatest}

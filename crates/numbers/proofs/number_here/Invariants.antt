@@ -1,15 +1,9 @@
 -- `numbers::number_here` meets its contract: the same steps as in read_number, none of which can refuse. Assumes nothing.
-use Prim.Native.Nat.{ℕ, ◌+◌, ◌-◌, ◌*◌, ◌^◌, ◌<◌, ◌≤◌}
-use mathlib.Core.Path.{◌≡◌, sym, ap, ◌∙◌}
-use borrow.Author.Rules.{rules}
-use native.Mathlib.Omega.{arith}
+use Prim.Native.Nat.{◌+◌, ◌-◌, ◌^◌, ◌<◌, ◌≤◌}
+use mathlib.Core.Path.{◌≡◌}
 use lib.ListN.{length, drop, get_or}
-use lib.Dec.{ltb}
-use mathlib.Core.Bool.{true}
-use Rattle.model.specs.Limits.{greatest}
-use Rattle.model.specs.Answer.{when}
-use Rattle.model.specs.Number.{writing, number_at, numeral, judged}
-use Rattle.numbers.proofs.Rest.{rest, rest_start, rest_last, rest_more, scale_small, scale_next, product_small, sum_small, legible_on, legible_last}
+use Rattle.model.specs.Number.{writing, number_at}
+use Rattle.numbers.proofs.Rest.{rest}
 use Rattle.numbers.proofs.number_here.Given as goal
 
 abbrev pub invariant-loop-b : goal.invariant-loop-b

@@ -1,5 +1,4 @@
 -- `numbers::read_field` meets its contract: what the number reader found, judged by the two tests. Assumes nothing.
-use borrow.Author.Rules.{rules}
 use borrow.Author.Tests.{le-leb, lt-leb}
 use mathlib.Core.Path.{sym, ◌∙◌, ap}
 use Rattle.numbers.specs.Told.{told}

@@ -1,17 +1,15 @@
 -- `numbers::read_number` meets its contract. The loop's invariant: what is left to find out from `next` on is the whole answer.
 -- Assumes nothing.
-use Prim.Native.Nat.{ℕ, ◌+◌, ◌-◌, ◌*◌, ◌^◌, ◌<◌, ◌≤◌}
+use Prim.Native.Nat.{ℕ, ◌+◌, ◌-◌, ◌*◌, ◌≤◌}
 use mathlib.Core.Path.{◌≡◌, refl, sym, ap, ◌∙◌}
-use borrow.Author.Rules.{rules}
 use native.Mathlib.Omega.{arith}
 use lib.Dec.{ltb}
 use mathlib.Core.Bool.{true}
-use mathlib.Core.Logic.{⊎_elim}
-use lib.ListN.{drop}
 use Rattle.model.specs.Answer.{when}
-use Rattle.model.specs.Number.{writing, number_at, judged}
-use Rattle.numbers.proofs.Rest.{rest, rest_start, rest_cut, rest_last, rest_more, rest_long, scale_small, scale_next, product_small, sum_small, judged_large, judged_zero, judged_first, judged_some}
+use Rattle.model.specs.Number.{number_at, judged}
+use Rattle.numbers.proofs.Rest.{rest_start, rest_cut, rest_last, rest_more, rest_long, scale_small, scale_next, product_small, sum_small, judged_large, judged_zero, judged_first, judged_some}
 use Rattle.numbers.proofs.read_number.Goals as goal
+use Rattle.numbers.proofs.read_number.Goals.{then-b-eq0+else-at-next, else-b-eq0}
 
 pub loop-left-init : goal.loop-left-init
 loop-left-init c = record { few = omega arith; on = omega arith; small = omega arith; worth = refl; same = rest_start _ _ }
@@ -52,10 +50,10 @@ pub returns-then-b-lt128 : goal.returns-then-b-lt128
 returns-then-b-lt128 c =
     let at_last : let l = c.loop-left in let a = c.args in number_at a.s.now a.at ≡ judged (l.value + c.wide-b.result * l.scale) (when (ltb a.at l.next) (ltb 0 c.wide-b.result) true) (l.next + 1) = let l = c.loop-left in
     l.invariant.same ∙ rest_last _ _ l.value l.scale l.next l.left (omega arith) c.wide-b.result c.wide-b.ensures.same (omega arith) c.if-b-lt128.true in
-    sym (at_last ∙ ⊎_elim
-    (λ w. judged_first _ _ _ c.wide-b.result w.1.left c.if-v-gt-LARGEST.false)
-    (λ w. judged_some _ _ _ _ w.left c.if-v-gt-LARGEST.false)
-    c.if-b-eq0.branch)
+    sym (at_last ∙ elim c.if-b-eq0.branch [
+      | then-b-eq0+else-at-next w ↦ judged_first _ _ _ c.wide-b.result w.if-at-next.false c.if-v-gt-LARGEST.false
+      | else-b-eq0 w ↦ judged_some _ _ _ _ w.if-b-eq0.false c.if-v-gt-LARGEST.false
+    ])
 
 pub overflow_mul-value : goal.overflow_mul-value
 overflow_mul-value c =

@@ -1,16 +1,10 @@
 -- `numbers::read_number` meets its contract. The loop's invariant: what is left to find out from `next` on is the whole answer.
 -- Assumes nothing.
-use Prim.Native.Nat.{ℕ, ◌+◌, ◌-◌, ◌*◌, ◌^◌, ◌<◌, ◌≤◌}
-use mathlib.Core.Path.{◌≡◌, refl, sym, ap, ◌∙◌}
-use borrow.Author.Rules.{rules}
-use native.Mathlib.Omega.{arith}
-use lib.Dec.{ltb}
-use mathlib.Core.Bool.{true}
-use mathlib.Core.Logic.{⊎_elim}
+use Prim.Native.Nat.{◌-◌, ◌^◌, ◌<◌, ◌≤◌}
+use mathlib.Core.Path.{◌≡◌}
 use lib.ListN.{drop}
-use Rattle.model.specs.Answer.{when}
-use Rattle.model.specs.Number.{writing, number_at, judged}
-use Rattle.numbers.proofs.Rest.{rest, rest_start, rest_cut, rest_last, rest_more, rest_long, scale_small, scale_next, product_small, sum_small, judged_large, judged_zero, judged_first, judged_some}
+use Rattle.model.specs.Number.{writing, number_at}
+use Rattle.numbers.proofs.Rest.{rest}
 use Rattle.numbers.proofs.read_number.Given as goal
 
 abbrev pub invariant-loop-left : goal.invariant-loop-left

@@ -1,6 +1,5 @@
 -- `suspects::fill` meets its contract. Assumes nothing.
 use native.Mathlib.Omega.{arith}
-use borrow.Author.Rules.{rules}
 use Rattle.model.specs.Limits.{spans_most}
 use Rattle.suspects.proofs.Grow.{fill_none, fill_some}
 use Rattle.suspects.proofs.fill.Goals as goal

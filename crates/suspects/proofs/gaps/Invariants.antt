@@ -1,15 +1,12 @@
 -- `suspects::gaps` meets its contract. The invariant: of whatever rising ranges stand there, the complement below `next` is held, and the ranges
 -- from `at` on lie ahead. Assumes nothing.
-use Prim.Native.Nat.{ℕ, ◌+◌, ◌≤◌, ◌<◌}
-use mathlib.Core.Path.{◌≡◌, refl}
-use native.Mathlib.Omega.{arith}
-use lib.ListN.{length, get_or}
+use Prim.Native.Nat.{ℕ, ◌+◌, ◌≤◌}
+use mathlib.Core.Path.{◌≡◌}
+use lib.ListN.{length}
 use Rattle.model.specs.Limits.{greatest, spans_most}
 use Rattle.model.specs.Spans.{Spans, Rising}
 use Rattle.suspects.specs.Slots.{Listed}
-use Rattle.suspects.specs.Build.{Filled}
-use Rattle.suspects.proofs.Ahead as ahead
-use Rattle.suspects.proofs.Between.{Gapped, gapped_all, gap_next, gap_full, gap_end}
+use Rattle.suspects.proofs.Between.{Gapped}
 use Rattle.suspects.proofs.gaps.Given as goal
 
 abbrev pub invariant-loop-left : goal.invariant-loop-left

@@ -1,11 +1,9 @@
 -- `suspects::is_clear` meets its contract. The invariant: what is left of the test decides it. Assumes nothing.
 use Prim.Native.Nat.{◌≤◌, ◌-◌}
-use mathlib.Core.Path.{◌≡◌, refl, sym}
-use native.Mathlib.Omega.{arith}
+use mathlib.Core.Path.{◌≡◌}
 use lib.ListN.{length, drop}
 use Rattle.model.specs.Limits.{spans_most}
 use Rattle.model.specs.Slices.{zeros}
-use Rattle.suspects.proofs.InWriting.{zeros_not, zeros_on, zeros_end}
 use Rattle.suspects.proofs.is_clear.Given as goal
 
 abbrev pub invariant-loop-i : goal.invariant-loop-i

@@ -1,9 +1,7 @@
 -- `suspects::is_rising` meets its contract. The invariant: what is left of the test decides it. Assumes nothing.
-use Prim.Native.Nat.{◌+◌, ◌≤◌, ◌-◌}
-use mathlib.Core.Path.{◌≡◌, refl, sym, ◌∙◌, ap}
+use Prim.Native.Nat.{◌+◌}
+use mathlib.Core.Path.{refl, sym, ◌∙◌, ap}
 use native.Mathlib.Omega.{arith}
-use lib.ListN.{length}
-use Rattle.model.specs.Limits.{spans_most}
 use Rattle.model.specs.Slices.{rising}
 use Rattle.suspects.proofs.InWriting.{from, rising_low, rising_back, rising_on, rising_end}
 use Rattle.suspects.proofs.is_rising.Goals as goal

@@ -1,5 +1,4 @@
 -- Five stores, each of one more slot.
-use borrow.Author.Rules.{rules}
 use Rattle.book.proofs.Notes.{noted}
 use Rattle.book.proofs.rules.note_rule.Goals as goal
 

@@ -1,5 +1,4 @@
 -- Paths into the laws of ActionSteps.
-use borrow.Author.Rules.{rules}
 use mathlib.Core.Path.{sym, ◌∙◌, ap}
 use Rattle.numbers.specs.Told.{told}
 use Rattle.book.proofs.ActionSteps.{call_refused, call_entry, call_far, call_got}

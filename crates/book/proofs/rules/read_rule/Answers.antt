@@ -1,5 +1,4 @@
 -- Paths into the laws of RuleSteps.
-use borrow.Author.Rules.{rules}
 use mathlib.Core.Path.{sym, ◌∙◌}
 use Rattle.book.proofs.RuleSteps.{action_bad, match_bad, rule_got}
 use Rattle.book.proofs.rules.read_rule.Goals as goal

@@ -1,10 +1,7 @@
 -- Some rules were read and noted, and with what is still to be read they are all.
 use Prim.Native.Nat.{◌-◌}
-use native.Mathlib.Omega.{arith}
-use mathlib.Core.Path.{sym, ◌∙◌}
-use borrow.Author.Rules.{rules}
 use Rattle.book.specs.Held.{Held}
-use Rattle.book.proofs.RuleSteps.{Behind, rules_begin, rules_next, rules_refused, rules_end, rule_small}
+use Rattle.book.proofs.RuleSteps.{Behind}
 use Rattle.book.proofs.rules.read_rules.Given as goal
 
 abbrev pub invariant-loop-i : goal.invariant-loop-i
