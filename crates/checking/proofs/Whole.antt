@@ -26,7 +26,7 @@ use Rattle.calls.specs.declared.CallCheck.{CallCheck}
 use Rattle.calls.specs.declared.CallCheck.TheVariants as calls
 use Rattle.calls.proofs.Charted.{charted_actions, passed_ranks}
 use Rattle.checking.specs.Checks.{refusal_of, judgement, Checks}
-use Rattle.checking.specs.declared.Reading.TheVariants.{Fine, Refused}
+use Rattle.checking.specs.declared.Reading.TheVariants.{Refused}
 
 -- the arrays of contents are those of b
 abbrev pub ChartedBy : Book → Contents → Type 0

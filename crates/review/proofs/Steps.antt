@@ -9,7 +9,7 @@ use borrow.Author.Tests.{le-leb, lt-leb}
 use lib.Dec.{eqb}
 use lib.ListN.{length}
 use Rattle.model.specs.Limits.{spans_most}
-use Rattle.model.specs.Answer.{Answer, refused}
+use Rattle.model.specs.Answer.{Answer}
 use Rattle.model.specs.Unfolding.{ListRule}
 use Rattle.model.specs.Spans.{Spans}
 use Rattle.model.specs.Review as model

@@ -1,6 +1,5 @@
 -- One store of a greater set.
 use lib.Dec.{eqb}
-use borrow.Author.Rules.{rules}
 use Rattle.calls.proofs.Tables.{grown}
 use Rattle.calls.specs.Sets.{in_row}
 use Rattle.calls.proofs.add.Goals as goal

@@ -1,8 +1,7 @@
 -- The chains below c have their calls.
-use Prim.Native.Nat.{◌≤◌, ◌-◌, ◌<◌}
+use Prim.Native.Nat.{◌<◌}
 use native.Mathlib.Omega.{arith}
 use mathlib.Core.Path.{◌≡◌, subst}
-use Rattle.calls.specs.Sets.{Fit}
 use Rattle.calls.proofs.Graph.{calls_table}
 use Rattle.calls.proofs.Tables.{empty}
 use Rattle.calls.proofs.Rules.{Below, chain_step, below_none}
@@ -14,9 +13,6 @@ loop-c-init c = (omega arith, empty, below_none c.args.first.now c.args.action.n
 
 pub add_calls-requires : goal.add_calls-requires
 add_calls-requires c = (c.requires, omega arith, c.loop-c.invariant.1)
-
-pub overflow_add-c : goal.overflow_add-c
-overflow_add-c c = omega (arith, c.requires.few)
 
 pub loop-c-preserved : goal.loop-c-preserved
 loop-c-preserved c =

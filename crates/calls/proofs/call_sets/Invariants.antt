@@ -1,12 +1,7 @@
 -- The chains below c have their calls.
-use Prim.Native.Nat.{◌≤◌, ◌-◌, ◌<◌}
-use native.Mathlib.Omega.{arith}
-use mathlib.Core.Path.{◌≡◌, subst}
+use Prim.Native.Nat.{◌≤◌, ◌-◌}
 use Rattle.calls.specs.Sets.{Fit}
-use Rattle.calls.proofs.Graph.{calls_table}
-use Rattle.calls.proofs.Tables.{empty}
-use Rattle.calls.proofs.Rules.{Below, chain_step, below_none}
-use Rattle.model.specs.Limits.{chains_most}
+use Rattle.calls.proofs.Rules.{Below}
 use Rattle.calls.proofs.call_sets.Given as goal
 
 abbrev pub invariant-loop-c : goal.invariant-loop-c

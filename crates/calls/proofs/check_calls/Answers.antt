@@ -1,6 +1,5 @@
 -- Each answer is the model's.
 use mathlib.Core.Path.{ap, sym, ◌∙◌}
-use borrow.Author.Rules.{rules}
 use Rattle.calls.proofs.Graph.{few_enough}
 use Rattle.calls.proofs.Answers.{at_loop, too_much, enough, free_of}
 use Rattle.calls.specs.Checked.{loop_of}

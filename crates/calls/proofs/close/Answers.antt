@@ -1,5 +1,5 @@
 -- After k passes the table is the relation with what is in between below k.
-use Prim.Native.Nat.{◌≤◌, ◌-◌, ◌<◌}
+use Prim.Native.Nat.{◌<◌}
 use native.Mathlib.Omega.{arith}
 use mathlib.Core.Path.{◌≡◌, subst}
 use Rattle.calls.specs.Reached.{reach}
@@ -17,7 +17,7 @@ pass-requires c = (c.loop-k.invariant.1.fit, omega (arith, c.requires.1))
 pub loop-k-preserved : goal.loop-k-preserved
 loop-k-preserved c =
     let k : c.loop-k.k < chains_most = omega (arith, c.requires.1) in
-    (omega arith, next_round (in_row c.args.sets.now) c.loop-k.k c.loop-k.sets c.pass.new.0 k c.loop-k.invariant.1 c.pass.ensures)
+    (omega arith, next_round (in_row c.args.sets.now) c.loop-k.k c.loop-k.sets c.pass.new.sets k c.loop-k.invariant.1 c.pass.ensures)
 
 pub returns : goal.returns
 returns c =

@@ -1,11 +1,7 @@
 -- After k passes the table is the relation with what is in between below k.
-use Prim.Native.Nat.{◌≤◌, ◌-◌, ◌<◌}
-use native.Mathlib.Omega.{arith}
-use mathlib.Core.Path.{◌≡◌, subst}
+use Prim.Native.Nat.{◌≤◌, ◌-◌}
 use Rattle.calls.specs.Reached.{reach}
 use Rattle.calls.specs.Sets.{in_row, Holds}
-use Rattle.calls.proofs.Tables.{first_round, next_round}
-use Rattle.model.specs.Limits.{chains_most}
 use Rattle.calls.proofs.close.Given as goal
 
 abbrev pub invariant-loop-k : goal.invariant-loop-k

@@ -1,6 +1,5 @@
 -- A bit by shift and remainder is the definition itself.
 use mathlib.Core.Path.{refl}
-use borrow.Author.Rules.{rules}
 use Rattle.calls.specs.Sets.{has, in_row}
 use Rattle.calls.proofs.holds.Goals as goal
 

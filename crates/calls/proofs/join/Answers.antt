@@ -2,7 +2,6 @@
 use lib.Bits.{bit_or, or_lt}
 use lib.ListN.{get_or}
 use Rattle.model.specs.Limits.{chains_most}
-use borrow.Author.Rules.{rules}
 use Rattle.calls.specs.Sets.{in_row}
 use Rattle.calls.proofs.Bits.{has_or}
 use Rattle.calls.proofs.Tables.{grown}

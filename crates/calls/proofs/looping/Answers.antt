@@ -1,11 +1,11 @@
 -- The chains below c that are in their own set.
-use Prim.Native.Nat.{◌+◌, ◌≤◌, ◌-◌, ◌^◌, ◌<◌}
+use Prim.Native.Nat.{◌<◌}
 use native.Mathlib.Omega.{arith}
-use mathlib.Core.Logic.{⊎_elim}
-use mathlib.Core.Path.{sym, ◌∙◌, subst}
-use Rattle.calls.proofs.Rules.{Own, own_none, own_in, own_out, own_all}
+use mathlib.Core.Path.{sym, ◌∙◌}
+use Rattle.calls.proofs.Rules.{own_none, own_in, own_out, own_all}
 use Rattle.model.specs.Limits.{chains_most}
 use Rattle.calls.proofs.looping.Goals as goal
+use Rattle.calls.proofs.looping.Goals.{then-holds, else-holds}
 
 pub loop-c-init : goal.loop-c-init
 loop-c-init c = (omega arith, omega arith, own_none c.args.sets.now)
@@ -19,11 +19,11 @@ loop-c-preserved c =
     let lt : c.loop-c.c < chains_most = omega arith in
     let q = c.holds.ensures in (
       omega arith,
-      ⊎_elim (λ w. subst (λ z. z < 2 ^ chains_most) (sym w.2) w.1.ensures.0) (λ w. subst (λ z. z < 2 ^ chains_most) (sym w.1) c.loop-c.invariant.1) c.if-holds.branch,
-      ⊎_elim
-          (λ w. subst (λ z. Own s (c.loop-c.c + 1) z) (sym w.2) (own_in s c.loop-c.c c.loop-c.out _ lt c.loop-c.invariant.2 (sym q ∙ w.0.taken) w.1.ensures.1))
-          (λ w. subst (λ z. Own s (c.loop-c.c + 1) z) (sym w.1) (own_out s c.loop-c.c c.loop-c.out lt c.loop-c.invariant.2 (sym q ∙ w.0.left)))
-          c.if-holds.branch,
+      elim c.if-holds.branch [ then-holds w ↦ omega arith | else-holds w ↦ omega arith ],
+      elim c.if-holds.branch [
+        | then-holds w ↦ rw w.out-is (own_in s c.loop-c.c c.loop-c.out _ lt c.loop-c.invariant.2 (sym q ∙ w.if-holds.true) w.with-out.ensures.1)
+        | else-holds w ↦ rw w.out-is (own_out s c.loop-c.c c.loop-c.out lt c.loop-c.invariant.2 (sym q ∙ w.if-holds.false))
+      ],
     )
 
 pub returns : goal.returns

@@ -1,9 +1,6 @@
 -- The chains below c that are in their own set.
-use Prim.Native.Nat.{◌+◌, ◌≤◌, ◌-◌, ◌^◌, ◌<◌}
-use native.Mathlib.Omega.{arith}
-use mathlib.Core.Logic.{⊎_elim}
-use mathlib.Core.Path.{sym, ◌∙◌, subst}
-use Rattle.calls.proofs.Rules.{Own, own_none, own_in, own_out, own_all}
+use Prim.Native.Nat.{◌≤◌, ◌-◌, ◌^◌, ◌<◌}
+use Rattle.calls.proofs.Rules.{Own}
 use Rattle.model.specs.Limits.{chains_most}
 use Rattle.calls.proofs.looping.Given as goal
 

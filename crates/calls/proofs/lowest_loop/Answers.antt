@@ -1,6 +1,5 @@
 -- No bit set: no loop. Else the lowest set bit is the lowest loop.
 use native.Mathlib.Omega.{arith}
-use borrow.Author.Rules.{rules}
 use Rattle.calls.proofs.Graph.{no_loop, a_loop}
 use Rattle.calls.proofs.lowest_loop.Goals as goal
 

@@ -1,10 +1,7 @@
 -- The rows below a have taken k's set; k's own row does not change.
-use Prim.Native.Nat.{◌+◌, ◌<◌, ◌≤◌, ◌-◌}
-use native.Mathlib.Omega.{arith}
-use mathlib.Core.Path.{subst, sym, ◌∙◌}
-use mathlib.Core.Logic.{⊎_elim}
+use Prim.Native.Nat.{◌≤◌, ◌-◌}
 use Rattle.calls.specs.Sets.{in_row, Holds}
-use Rattle.calls.proofs.Tables.{part, part_none, part_all, took, passed_by}
+use Rattle.calls.proofs.Tables.{part}
 use Rattle.model.specs.Limits.{chains_most}
 use Rattle.calls.proofs.pass.Given as goal
 

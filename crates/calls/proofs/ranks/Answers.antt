@@ -1,7 +1,7 @@
-use Prim.Native.Nat.{ℕ, ◌≤◌, ◌-◌, ◌<◌}
+use Prim.Native.Nat.{ℕ, ◌<◌}
 use native.Mathlib.Omega.{arith}
-use mathlib.Core.Path.{◌≡◌, ◌∙◌}
-use lib.ListN.{length, get_or, length-set, length-replicate}
+use mathlib.Core.Path.{◌∙◌}
+use lib.ListN.{length, length-set, length-replicate}
 use Rattle.calls.proofs.Levels.{ranked_next}
 use Rattle.calls.specs.Sets.{rank_of}
 use Rattle.model.specs.Limits.{chains_most}
@@ -25,7 +25,8 @@ overflow_add-c c = omega (arith, c.requires)
 pub loop-c-preserved : goal.loop-c-preserved
 loop-c-preserved c =
     let room : c.loop-c.c < length c.loop-c.all = omega (arith, c.requires) in
-    (omega arith, length-set c.loop-c.all c.loop-c.c c.rank.result ∙ c.loop-c.invariant.1, ranked_next c.loop-c.all (rank_of c.args.sets.now) c.loop-c.c c.rank.result room c.rank.ensures c.loop-c.invariant.2)
+    let next = ranked_next c.loop-c.all (rank_of c.args.sets.now) c.loop-c.c c.rank.result room c.rank.ensures c.loop-c.invariant.2 in
+    (omega arith, length-set c.loop-c.all c.loop-c.c c.rank.result ∙ c.loop-c.invariant.1, next)
 
 pub returns : goal.returns
 returns c = λ x l. c.loop-c.invariant.2 x (omega arith)

@@ -1,8 +1,6 @@
 use Prim.Native.Nat.{ℕ, ◌≤◌, ◌-◌, ◌<◌}
-use native.Mathlib.Omega.{arith}
-use mathlib.Core.Path.{◌≡◌, ◌∙◌}
-use lib.ListN.{length, get_or, length-set, length-replicate}
-use Rattle.calls.proofs.Levels.{ranked_next}
+use mathlib.Core.Path.{◌≡◌}
+use lib.ListN.{length, get_or}
 use Rattle.calls.specs.Sets.{rank_of}
 use Rattle.model.specs.Limits.{chains_most}
 use Rattle.calls.proofs.ranks.Given as goal

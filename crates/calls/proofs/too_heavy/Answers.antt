@@ -1,6 +1,5 @@
 -- The weight of the entry, up to one more than the limit, tells whether it is above.
 use lib.ListN.{length, get_or}
-use borrow.Author.Rules.{rules}
 use Rattle.model.specs.Calls.{weight}
 use Rattle.calls.proofs.Levels.{same_ranks, too_heavy}
 use Rattle.calls.proofs.Graph.{ranked, weighing}

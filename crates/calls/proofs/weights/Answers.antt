@@ -1,21 +1,13 @@
 -- The ranks below the level have their weights; every rank is below the number of chains.
-use Prim.Native.Nat.{ℕ, ◌≤◌, ◌-◌}
 use native.Mathlib.Omega.{arith}
 use Rattle.calls.proofs.Levels.{none_weighed}
-use Rattle.calls.specs.Weights.{rank_in, AllCapped, Weighing, Upto}
 use Rattle.calls.proofs.weights.Goals as goal
 
 pub loop-level-init : goal.loop-level-init
 loop-level-init c = (omega arith, none_weighed, λ w by x l r. absurd (omega arith))
 
-pub overflow_cast-level : goal.overflow_cast-level
-overflow_cast-level c = omega (arith, c.requires.few)
-
 pub weigh_rank-requires : goal.weigh_rank-requires
 weigh_rank-requires c = (c.requires, c.loop-level.invariant.1)
-
-pub overflow_add-level : goal.overflow_add-level
-overflow_add-level c = omega (arith, c.requires.few)
 
 pub loop-level-preserved : goal.loop-level-preserved
 loop-level-preserved c =

@@ -1,5 +1,4 @@
 -- One bit more: the law of `or` and of a power of two.
-use borrow.Author.Rules.{rules}
 use Rattle.calls.proofs.Bits.{has_with, with_small}
 use Rattle.calls.proofs.with.Goals as goal
 

@@ -1,5 +1,4 @@
 -- `checking::check` meets its contract: the book as it was read, and then the check of its calls. Assumes nothing.
-use borrow.Author.Rules.{rules}
 use mathlib.Core.Path.{◌∙◌, ap}
 use Rattle.checking.proofs.Whole.{read_to, refused_checks, shape, actions, judged_as, ranked}
 use Rattle.checking.proofs.check.Goals as goal
@@ -24,8 +23,9 @@ pub returns-in-Fine : goal.returns-in-Fine
 returns-in-Fine c =
     let read = c.read_book-answer in
     let t = read_to _ read.result read.ensures c.in-Fine.is in
+    let found = c.check_calls-found in
     record {
-      answer = c.judged-reading.ensures ∙ judged_as t c.check_calls-found.result (c.check_calls-found.ensures t.book t.stand (actions t) (c.reached-sets.ensures t.book (actions t)));
+      answer = c.judged-reading.ensures ∙ judged_as t found.result (found.ensures t.book t.stand (actions t) (c.reached-sets.ensures t.book (actions t)));
       contents = ap (λ x. x.contents) read.ensures;
       ranked = λ b h. ranked t b h c.reached-sets.result (c.reached-sets.ensures t.book (actions t)) c.ranks-order.result c.ranks-order.ensures;
     }

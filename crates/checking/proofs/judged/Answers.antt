@@ -1,5 +1,4 @@
 -- `checking::judged` meets its contract, case by case. Assumes nothing.
-use borrow.Author.Rules.{rules}
 use Rattle.checking.proofs.judged.Goals as goal
 
 pub returns-in-Loop : goal.returns-in-Loop

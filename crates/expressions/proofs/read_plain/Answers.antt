@@ -1,5 +1,4 @@
 -- `expressions::read_plain` meets its contract: a law for each kind. Assumes nothing.
-use borrow.Author.Rules.{rules}
 use Prim.Native.Nat.{zero-le}
 use Rattle.expressions.proofs.ByKind.{is_always, is_source, is_too_many, is_port, is_destination, is_protocol, is_service, is_unread, is_no_kind, above}
 use Rattle.expressions.proofs.read_plain.Goals as goal

@@ -1,5 +1,4 @@
 -- `expressions::read_two` meets its contract. Assumes nothing.
-use borrow.Author.Rules.{rules}
 use mathlib.Core.Path.{sym, ◌∙◌, ap}
 use Rattle.numbers.specs.Told as number
 use Rattle.expressions.proofs.Fields.{two_refused, two_got}

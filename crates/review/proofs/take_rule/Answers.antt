@@ -1,5 +1,4 @@
 -- `review::take_rule` meets its contract. Assumes nothing.
-use borrow.Author.Rules.{rules}
 use Rattle.review.proofs.Takes.{take_refuses, take_passes, take_drops}
 use Rattle.review.proofs.take_rule.Goals as goal
 

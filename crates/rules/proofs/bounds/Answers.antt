@@ -1,5 +1,4 @@
 -- `rules::bounds` meets its contract: where the contents say. Assumes nothing.
-use borrow.Author.Rules.{rules}
 use Rattle.rules.proofs.Laws.{bounds_none, bounds_at}
 use Rattle.rules.proofs.bounds.Goals as goal
 

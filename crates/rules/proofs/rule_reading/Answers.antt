@@ -1,5 +1,4 @@
 -- `rules::rule_reading` meets its contract: the check of the book, and then its contents. Assumes nothing.
-use borrow.Author.Rules.{rules}
 use mathlib.Core.Path.{sym, ◌∙◌}
 use Rattle.checking.proofs.Uses.{fine_of, refused_of, contents_of_lem}
 use Rattle.rules.specs.declared.RuleAnswer.TheVariants.{Refused}
@@ -14,9 +13,11 @@ bounds-requires c =
 pub returns-in-Refused : goal.returns-in-Refused
 returns-in-Refused c =
     let k = c.check-checked in
-    both_say _ _ (Refused _ _) (book_refused _ _ _ _ (refused_of _ _ _ (sym k.ensures.answer ∙ c.in-Refused.is)))
+    let so = both_say _ _ (Refused _ _) (book_refused _ _ _ _ (refused_of _ _ _ (sym k.ensures.answer ∙ c.in-Refused.is))) in
+    record { stands = so.0; entry = so.1 }
 
 pub returns-in-Fine : goal.returns-in-Fine
 returns-in-Fine c =
     let k = c.check-checked in let o = fine_of _ (sym k.ensures.answer ∙ c.in-Fine.is) in
-    both_say _ _ c.bounds.result (c.bounds.ensures _ o.0 o.1 (contents_of_lem _ _ k.ensures o.0 o.1) ∙ book_fine _ _ o.0 o.1)
+    let so = both_say _ _ c.bounds.result (c.bounds.ensures _ o.0 o.1 (contents_of_lem _ _ k.ensures o.0 o.1) ∙ book_fine _ _ o.0 o.1) in
+    record { stands = so.0; entry = so.1 }

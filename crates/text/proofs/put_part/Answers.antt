@@ -3,7 +3,6 @@ use native.Mathlib.Omega.{arith}
 use lib.ListN.{length-set}
 use mathlib.Core.Path.{◌∙◌}
 use Rattle.text.proofs.Appends.{nothing, byte, then, puts_length}
-use borrow.Author.Rules.{rules}
 use Rattle.text.proofs.put_part.Goals as goal
 
 pub put_decimal-requires : goal.put_decimal-requires

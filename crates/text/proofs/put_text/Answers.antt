@@ -1,8 +1,5 @@
 -- The bytes so far stand in the buffer.
-use Prim.Native.Nat.{◌+◌, ◌-◌, ◌≤◌}
 use native.Mathlib.Omega.{arith}
-use lib.ListN.{length, take}
-use Rattle.text.specs.Puts.{Puts}
 use Rattle.text.proofs.Appends.{puts_length, text_none, text_next, text_all}
 use Rattle.text.proofs.put_text.Goals as goal
 

@@ -1,9 +1,7 @@
 -- The bytes so far stand in the buffer.
 use Prim.Native.Nat.{◌+◌, ◌-◌, ◌≤◌}
-use native.Mathlib.Omega.{arith}
 use lib.ListN.{length, take}
 use Rattle.text.specs.Puts.{Puts}
-use Rattle.text.proofs.Appends.{puts_length, text_none, text_next, text_all}
 use Rattle.text.proofs.put_text.Given as goal
 
 abbrev pub invariant-loop-i : goal.invariant-loop-i

@@ -1,8 +1,6 @@
 -- Behind the head stand the conditions that are copied so far.
 use Prim.Native.Nat.{◌-◌}
-use native.Mathlib.Omega.{arith}
-use lib.ListN.{length-set}
-use Rattle.unfolding.proofs.Entries.{Copied, copied_none, copied_length, copied_next, copied_all}
+use Rattle.unfolding.proofs.Entries.{Copied}
 use Rattle.unfolding.proofs.write_rule.Given as goal
 
 abbrev pub invariant-loop-j : goal.invariant-loop-j

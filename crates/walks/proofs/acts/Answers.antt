@@ -1,4 +1,5 @@
 -- A matching rule's step is its action's, by the table of actions. Assumes nothing.
+use native.Mathlib.Omega.{arith}
 use Rattle.walks.proofs.Steps.{else_accepts}
 use Rattle.walks.proofs.acts.Goals as goal
 
@@ -18,4 +19,5 @@ pub returns-in-5 : goal.returns-in-5
 returns-in-5 c = λ run target rest. rw c.in-5.is
 
 pub returns-in_default : goal.returns-in_default
-returns-in_default c = λ run target rest. let n = c.in_default.in_default-own.rest in rw (else_accepts _ target n.0.0.0.0.1 n.0.0.0.1 n.0.0.1 n.0.1 n.1 c.requires)
+returns-in_default c = λ run target rest.
+    rw (else_accepts c.args.action target (λ e. omega arith) (λ e. omega arith) (λ e. omega arith) (λ e. omega arith) (λ e. omega arith) c.requires)

@@ -1,5 +1,4 @@
 -- What a call comes to ends its chain unless it is undecided. Assumes nothing.
-use borrow.Author.Rules.{rules}
 use Rattle.walks.proofs.called.Goals as goal
 
 pub returns-in-Accepted : goal.returns-in-Accepted

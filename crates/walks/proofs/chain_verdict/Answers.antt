@@ -1,6 +1,5 @@
 -- The entry's outcome settles the verdict. Assumes nothing.
 use native.Mathlib.Omega.{arith}
-use borrow.Author.Rules.{rules}
 use Rattle.walks.specs.declared.Outcome.TheVariants.{Accepted, Denied, Undecided}
 use Rattle.walks.proofs.Walks.{chains_say}
 use Rattle.walks.proofs.chain_verdict.Goals as goal
@@ -13,15 +12,15 @@ walk_chain-outcome-requires c = let k = c.requires in record { book = k.book; ke
 
 pub returns-in-Accepted : goal.returns-in-Accepted
 returns-in-Accepted c =
-    let a = c.args in
-    chains_say a.s.now a.answers.now a.p a.first.now a.action.now a.target.now a.expression.now a.chains a.policy c.walk_chain-outcome.result c.walk_chain-outcome.ensures Accepted c.in-Accepted.is
+    let a = c.args in let w = c.walk_chain-outcome in
+    chains_say a.s.now a.answers.now a.p a.first.now a.action.now a.target.now a.expression.now a.chains a.policy w.result w.ensures Accepted c.in-Accepted.is
 
 pub returns-in-Denied : goal.returns-in-Denied
 returns-in-Denied c =
-    let a = c.args in
-    chains_say a.s.now a.answers.now a.p a.first.now a.action.now a.target.now a.expression.now a.chains a.policy c.walk_chain-outcome.result c.walk_chain-outcome.ensures Denied c.in-Denied.is
+    let a = c.args in let w = c.walk_chain-outcome in
+    chains_say a.s.now a.answers.now a.p a.first.now a.action.now a.target.now a.expression.now a.chains a.policy w.result w.ensures Denied c.in-Denied.is
 
 pub returns-in-Undecided : goal.returns-in-Undecided
 returns-in-Undecided c =
-    let a = c.args in
-    chains_say a.s.now a.answers.now a.p a.first.now a.action.now a.target.now a.expression.now a.chains a.policy c.walk_chain-outcome.result c.walk_chain-outcome.ensures Undecided c.in-Undecided.is
+    let a = c.args in let w = c.walk_chain-outcome in
+    chains_say a.s.now a.answers.now a.p a.first.now a.action.now a.target.now a.expression.now a.chains a.policy w.result w.ensures Undecided c.in-Undecided.is

@@ -1,17 +1,11 @@
 -- The loop over the list's rules: whatever list is in the words, the verdict of the rest is the verdict of all. Assumes nothing.
-use Prim.Native.Nat.{◌-◌, ◌*◌, ◌^◌, ◌<◌}
+use Prim.Native.Nat.{◌-◌}
 use mathlib.Core.List.{List}
-use mathlib.Core.Path.{◌≡◌}
-use native.Mathlib.Omega.{arith}
-use borrow.Author.Rules.{rules}
-use lib.ListN.{length}
 use Rattle.model.specs.Matching.{value}
 use Rattle.model.specs.Unfolding.{ListRule}
-use Rattle.model.specs.Verdict.{conditions_value}
-use Rattle.matching.specs.Sight.{rank}
 use Rattle.walks.specs.Packets.{packet_of, leaves_of, tactic}
 use Rattle.walks.specs.Lists.{Lists}
-use Rattle.walks.proofs.Lists.{Rest, Front, rest_all, rest_none, front, front_taken, front_left, conditions_seen}
+use Rattle.walks.proofs.Lists.{Rest}
 use Rattle.walks.proofs.list_verdict.Given as goal
 
 abbrev pub invariant-loop-at : goal.invariant-loop-at

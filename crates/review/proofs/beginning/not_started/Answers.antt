@@ -1,5 +1,4 @@
 -- `review::beginning::not_started` meets its contract. Assumes nothing.
-use borrow.Author.Rules.{rules}
 use Rattle.review.proofs.Starting.{nothing_started}
 use Rattle.review.proofs.beginning.not_started.Goals as goal
 

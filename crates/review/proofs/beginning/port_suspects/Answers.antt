@@ -1,5 +1,4 @@
 -- `review::beginning::port_suspects` meets its contract. Assumes nothing.
-use borrow.Author.Rules.{rules}
 use Rattle.review.proofs.Starting.{port_ranges, port_outside}
 use Rattle.review.proofs.beginning.port_suspects.Goals as goal
 

@@ -1,5 +1,4 @@
 -- `review::beginning::start` meets its contract: the book's check, and then the start of a book that was read. Assumes nothing.
-use borrow.Author.Rules.{rules}
 use mathlib.Core.Path.{refl, sym, ◌∙◌}
 use Rattle.checking.proofs.Uses.{fine_of, refused_of, contents_of_lem}
 use Rattle.review.proofs.Starting.{start_refused, start_read}

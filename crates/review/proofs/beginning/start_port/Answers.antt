@@ -1,5 +1,4 @@
 -- `review::beginning::start_port` meets its contract. Assumes nothing.
-use borrow.Author.Rules.{rules}
 use Rattle.review.proofs.Starting.{port_refused, port_starts}
 use Rattle.review.proofs.beginning.start_port.Goals as goal
 

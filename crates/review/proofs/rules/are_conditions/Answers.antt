@@ -1,10 +1,6 @@
 -- `review::rules::are_conditions` meets its contract. The invariant: all words are conditions where those from `at` on are. Assumes nothing.
-use Prim.Native.Nat.{◌+◌, ◌≤◌}
-use mathlib.Core.Path.{◌≡◌, refl, sym, ◌∙◌}
+use mathlib.Core.Path.{refl, sym, ◌∙◌}
 use native.Mathlib.Omega.{arith}
-use lib.ListN.{length, take, drop}
-use Rattle.model.specs.Slices.{conditions_in}
-use Rattle.review.specs.Known.{found, OfBook}
 use Rattle.review.proofs.ToldRules.{word_unknown, word_known, words_end}
 use Rattle.review.proofs.rules.are_conditions.Goals as goal
 
@@ -25,4 +21,4 @@ returns-else-is_rule_expression c = λ b h.
     word_unknown b _ _ _ _ (c.loop-left.invariant.1 b h) c.loop-left-test.true c.loop-left.invariant.0 (sym c.if-is_rule_expression.false ∙ c.is_rule_expression.ensures b h)
 
 pub returns : goal.returns
-returns c = λ b h. words_end b c.args.words.now _ c.loop-left.at c.loop-left.false (c.loop-left.invariant.1 b h) c.loop-left-test.false
+returns c = λ b h. words_end b c.args.words.now _ c.loop-left.at c.loop-left.left (c.loop-left.invariant.1 b h) c.loop-left-test.false

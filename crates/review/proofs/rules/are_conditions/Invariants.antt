@@ -1,11 +1,9 @@
 -- `review::rules::are_conditions` meets its contract. The invariant: all words are conditions where those from `at` on are. Assumes nothing.
 use Prim.Native.Nat.{◌+◌, ◌≤◌}
-use mathlib.Core.Path.{◌≡◌, refl, sym, ◌∙◌}
-use native.Mathlib.Omega.{arith}
+use mathlib.Core.Path.{◌≡◌}
 use lib.ListN.{length, take, drop}
 use Rattle.model.specs.Slices.{conditions_in}
 use Rattle.review.specs.Known.{found, OfBook}
-use Rattle.review.proofs.ToldRules.{word_unknown, word_known, words_end}
 use Rattle.review.proofs.rules.are_conditions.Given as goal
 
 abbrev pub invariant-loop-left : goal.invariant-loop-left

@@ -1,5 +1,4 @@
 -- `review::rules::is_rule` meets its contract: each test by itself, and then the conditions. Assumes nothing.
-use borrow.Author.Rules.{rules}
 use Prim.Native.Nat.{◌+◌}
 use native.Mathlib.Omega.{arith}
 use Rattle.review.proofs.ToldRules.{rule_short, rule_long, rule_other, rule_by_conditions}
@@ -15,10 +14,13 @@ pub overflow_cast-count : goal.overflow_cast-count
 overflow_cast-count c = let a = c.args in omega (arith, c.shared_slice_known-2-1.given (a.place + 2))
 
 pub returns-then-rest-count : goal.returns-then-rest-count
-returns-then-rest-count c = let a = c.args in λ b k. rule_long b a.words.now a.place (omega (arith, c.if-left-lt3.false, c.if-len-place.false)) (omega (arith, c.if-rest-count.true, c.if-left-lt3.false, c.if-len-place.false))
+returns-then-rest-count c = let a = c.args in λ b k. rule_long b a.words.now a.place (omega (arith, c.if-left-lt3.false, c.if-len-place.false))
+    (omega (arith, c.if-rest-count.true, c.if-left-lt3.false, c.if-len-place.false))
 
 pub returns-then-words-place-gt1 : goal.returns-then-words-place-gt1
-returns-then-words-place-gt1 c = let a = c.args in λ b k. rule_other b a.words.now a.place (omega (arith, c.if-left-lt3.false, c.if-len-place.false)) (omega (arith, c.if-rest-count.false, c.if-left-lt3.false, c.if-len-place.false)) c.if-words-place-gt1.true
+returns-then-words-place-gt1 c = let a = c.args in λ b k. rule_other b a.words.now a.place (omega (arith, c.if-left-lt3.false, c.if-len-place.false))
+    (omega (arith, c.if-rest-count.false, c.if-left-lt3.false, c.if-len-place.false)) c.if-words-place-gt1.true
 
 pub returns : goal.returns
-returns c = let a = c.args in λ b k. rule_by_conditions b a.words.now a.place (omega (arith, c.if-left-lt3.false, c.if-len-place.false)) (omega (arith, c.if-rest-count.false, c.if-left-lt3.false, c.if-len-place.false)) c.if-words-place-gt1.false _ (c.are_conditions.ensures b k)
+returns c = let a = c.args in λ b k. rule_by_conditions b a.words.now a.place (omega (arith, c.if-left-lt3.false, c.if-len-place.false))
+    (omega (arith, c.if-rest-count.false, c.if-left-lt3.false, c.if-len-place.false)) (omega arith) _ (c.are_conditions.ensures b k)

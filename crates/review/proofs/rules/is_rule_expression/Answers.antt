@@ -1,7 +1,6 @@
 -- `review::rules::is_rule_expression` meets its contract. The invariant: all places before `low` are lower, and all from `high` on are higher. Assumes nothing.
-use Prim.Native.Nat.{◌-◌}
 use native.Mathlib.Omega.{arith}
-use Rattle.review.proofs.Expressions.{Window, few_rules, window_all, window_up, window_down, window_found, window_none}
+use Rattle.review.proofs.Expressions.{few_rules, window_all, window_up, window_down, window_found, window_none}
 use Rattle.review.proofs.rules.is_rule_expression.Goals as goal
 
 pub loop-low-init : goal.loop-low-init

@@ -1,5 +1,4 @@
 -- `review::slices::move_on` meets its contract. Assumes nothing.
-use borrow.Author.Rules.{rules}
 use mathlib.Core.Path.{refl, ap}
 use Rattle.suspects.specs.Slots.{holding}
 use Rattle.review.specs.States.{next}

@@ -1,5 +1,4 @@
 -- `review::slices::step` meets its contract: the book's check, and then the call. Assumes nothing.
-use borrow.Author.Rules.{rules}
 use mathlib.Core.Path.{sym, ◌∙◌}
 use Rattle.checking.proofs.Uses.{fine_of, refused_of, contents_of_lem}
 use Rattle.review.proofs.Calls.{read_from, entry_refused, entry_steps}

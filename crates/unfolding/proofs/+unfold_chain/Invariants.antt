@@ -1,0 +1,16 @@
+-- Each turn of the loop is one rule of the chain; a called chain has less depth.
+use Prim.Native.Nat.{◌-◌}
+use Rattle.unfolding.specs.Emitted.{chain_words}
+use Rattle.unfolding.proofs.Going.{Going}
+use Rattle.unfolding.proofs.+unfold_chain.Given as goal
+
+abbrev pub decreases-unfold_chain : goal.decreases-unfold_chain
+decreases-unfold_chain l = l.depth
+
+abbrev pub invariant-loop-i : goal.invariant-loop-i
+invariant-loop-i l =
+    Going l.action l.target l.expression (chain_words l.first l.action l.target l.expression (l.depth - 1))
+    l.initial.i l.end l.n l.at l.initial.ctx l.initial.words l.i l.m l.to l.ctx l.words
+
+abbrev pub decreases-loop-i : goal.decreases-loop-i
+decreases-loop-i l = l.end - l.i
