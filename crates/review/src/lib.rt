@@ -24,7 +24,7 @@ pub enum Phase {
 }
 
 // A review in slices as its caller holds it: the place is that of the next rule in the list's words.
-#[derive(Drop)]
+#[derive(Clone, Copy)]
 pub struct State {
     pub phase: Phase,
     pub place: usize,

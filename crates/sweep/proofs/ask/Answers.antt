@@ -1,6 +1,5 @@
 -- `sweep::ask` meets its contract: the asking is the review's. Assumes nothing.
 use mathlib.Core.Path.{◌≡◌, subst}
-use borrow.Author.Rules.{rules}
 use Rattle.model.specs.Matching.{value, asked}
 use Rattle.model.specs.Verdict.{conditions_value}
 use Rattle.matching.specs.Sight.{rank}

@@ -1,18 +1,12 @@
 -- `sweep::drop_suspects` meets its contract. The invariant: of whatever set and conditions are there, what is left below some source is held, and
 -- the ranges from `at` on lie ahead. Assumes nothing.
-use Prim.Native.Nat.{ℕ, ◌≤◌, ◌<◌}
-use mathlib.Core.Path.{refl, sym, subst}
-use native.Mathlib.Omega.{arith}
-use lib.ListN.{get_or}
+use Prim.Native.Nat.{ℕ, ◌≤◌}
 use Rattle.model.specs.Limits.{spans_most}
 use Rattle.model.specs.Spans.{Spans, minus, Rising}
 use Rattle.model.specs.Review.{split_conditions}
 use Rattle.suspects.specs.Slots.{Slots}
-use Rattle.suspects.proofs.Columns.{low_length}
-use Rattle.suspects.proofs.Told.{slots_listed}
-use Rattle.suspects.proofs.Ahead.{room_low, hand}
 use Rattle.sweep.specs.Sweep.{Each, stays}
-use Rattle.sweep.proofs.Walk.{dropped, Swept, swept_all, swept_next, swept_full, swept_end}
+use Rattle.sweep.proofs.Walk.{dropped, Swept}
 use Rattle.sweep.proofs.drop_suspects.Given as goal
 
 abbrev pub invariant-loop-left : goal.invariant-loop-left

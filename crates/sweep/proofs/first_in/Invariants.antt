@@ -1,13 +1,8 @@
 -- `sweep::first_in` meets its contract. The invariant: no source of the range below x may pass. Assumes nothing.
 use Prim.Native.Nat.{ℕ, ◌+◌, ◌-◌, ◌≤◌, ◌<◌}
 use mathlib.Core.Bool.{false}
-use mathlib.Core.Logic.{⊎_elim}
-use mathlib.Core.Path.{◌≡◌, refl, sym, ◌∙◌}
-use native.Mathlib.Omega.{arith}
-use native.Mathlib.Nat.{le_refl}
-use Rattle.suspects.proofs.Chains.{lt_or_le}
-use Rattle.sweep.specs.Sweep.{Each, value_for, passes}
-use Rattle.sweep.proofs.Pieces.{stopped, may_pass_lem}
+use mathlib.Core.Path.{◌≡◌}
+use Rattle.sweep.specs.Sweep.{Each, passes}
 use Rattle.sweep.proofs.first_in.Given as goal
 
 abbrev pub invariant-loop-x : goal.invariant-loop-x

@@ -1,20 +1,12 @@
 -- `sweep::first_passing` meets its contract. The invariant: of whatever set and conditions are there, none may pass below some source, and the
 -- ranges from `at` on lie ahead. Assumes nothing.
-use Prim.Native.Nat.{ℕ, ◌≤◌, ◌<◌}
-use mathlib.Core.Path.{refl, sym, subst}
-use native.Mathlib.Omega.{arith}
-use borrow.Author.Rules.{rules}
-use lib.ListN.{get_or}
+use Prim.Native.Nat.{ℕ, ◌≤◌}
 use Rattle.model.specs.Limits.{spans_most}
 use Rattle.model.specs.Spans.{Spans, minus, Rising}
 use Rattle.model.specs.Review.{split_conditions}
 use Rattle.suspects.specs.Slots.{Slots}
-use Rattle.suspects.proofs.Columns.{low_length}
-use Rattle.suspects.proofs.Told.{slots_listed}
-use Rattle.suspects.proofs.Ahead.{room_low}
-use Rattle.sweep.specs.declared.Lowest.{Lowest}
-use Rattle.sweep.specs.Sweep.{Each, passes, LowestIn}
-use Rattle.sweep.proofs.Walk.{passing, Sought, sought_all, sought_found, sought_next, sought_end}
+use Rattle.sweep.specs.Sweep.{Each, passes}
+use Rattle.sweep.proofs.Walk.{passing, Sought}
 use Rattle.sweep.proofs.first_passing.Given as goal
 
 abbrev pub invariant-loop-left : goal.invariant-loop-left

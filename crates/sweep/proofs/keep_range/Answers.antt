@@ -1,12 +1,9 @@
 -- `sweep::keep_range` meets its contract. The invariant: the slots hold, below x, the writing of any P that is what stays of the range. Assumes nothing.
-use Prim.Native.Nat.{ℕ, ◌+◌, ◌-◌, ◌≤◌}
-use mathlib.Core.Bool.{Bool}
-use mathlib.Core.Path.{◌≡◌, refl}
+use Prim.Native.Nat.{◌+◌}
+use mathlib.Core.Path.{refl}
 use native.Mathlib.Omega.{arith}
 use Rattle.model.specs.Limits.{spans_most}
-use Rattle.suspects.specs.Build.{Held, Filled}
 use Rattle.suspects.proofs.Grow.{fill_none}
-use Rattle.sweep.specs.Sweep.{Each, stays}
 use Rattle.sweep.proofs.Pieces.{grown_on}
 use Rattle.sweep.proofs.keep_range.Goals as goal
 
@@ -22,7 +19,8 @@ keep_piece-r-requires c = (c.requires.0, c.loop-x.invariant.3, omega (arith, c.l
 pub returns-then-m-gt-MAX : goal.returns-then-m-gt-MAX
 returns-then-m-gt-MAX c = let a = c.args in let r = c.keep_piece-r in record {
   fits = omega (arith, c.ranges.high);
-  grown = λ cs k w P h same. grown_on spans_most P r.result.source (a.high + 1) r.result.count c.keep_piece-r.new.1.1.1.1.1.0 c.keep_piece-r.new.1.1.1.1.1.1.0 r.ensures.upto c.if-m-gt-MAX.true
+  grown = λ cs k w P h same.
+      grown_on spans_most P r.result.source (a.high + 1) r.result.count c.keep_piece-r.new.lower c.keep_piece-r.new.upper r.ensures.upto c.if-m-gt-MAX.true
       (r.ensures.grown cs k w P (c.loop-x.invariant.4 cs k w P h same) (λ y u v. same y (omega (arith, c.loop-x.invariant.0)) v));
 }
 
@@ -41,5 +39,7 @@ loop-x-preserved c = let r = c.keep_piece-r in (
 pub returns : goal.returns
 returns c = let a = c.args in record {
   fits = omega (arith, c.ranges.high);
-  grown = λ cs k w P h same. fill_none spans_most P c.loop-x.x (a.high + 1) c.loop-x.m c.loop-x.lower c.loop-x.upper (omega (arith, c.loop-x-test.false, c.loop-x.invariant.2)) c.loop-x.invariant.1 (c.loop-x.invariant.4 cs k w P h same);
+  grown = λ cs k w P h same.
+      fill_none spans_most P c.loop-x.x (a.high + 1) c.loop-x.m c.loop-x.lower c.loop-x.upper
+      (omega (arith, c.loop-x-test.false, c.loop-x.invariant.2)) c.loop-x.invariant.1 (c.loop-x.invariant.4 cs k w P h same);
 }

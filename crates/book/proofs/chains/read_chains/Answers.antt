@@ -1,11 +1,7 @@
 -- Some chains were read and charted, and with what is still to be read they are all.
-use Prim.Native.Nat.{◌≤◌, ◌+◌, ◌-◌}
 use native.Mathlib.Omega.{arith}
-use mathlib.Core.Path.{◌≡◌, sym, ◌∙◌, ap}
-use Rattle.model.specs.Limits.{rules_most}
-use Rattle.model.specs.Number.{numeral}
+use mathlib.Core.Path.{sym, ◌∙◌, ap}
 use Rattle.numbers.specs.Told.{told}
-use Rattle.numbers.specs.Field.{field_at}
 use Rattle.book.proofs.ChainSteps.{chains_begin, chains_end, count_refused, more_room, rules_refused, rules_got, charting_next}
 use Rattle.book.proofs.chains.read_chains.Goals as goal
 
@@ -22,28 +18,22 @@ returns-in-Refused c =
 
 pub overflow_add-last : goal.overflow_add-last
 overflow_add-last c =
-    let count_of : field_at c.args.s.now c.loop-c.next 0 (rules_most - c.loop-c.rules) ≡ numeral c.in-Got.count c.in-Got.from = sym c.read_field.ensures ∙ ap told c.in-Got.is in
-    let room_left : c.loop-c.rules + c.in-Got.count ≤ rules_most = more_room _ _ _ _ _ _ _ _ c.loop-c.invariant c.loop-c-test.true _ _ count_of in
-    omega (arith, room_left)
+    omega (arith, more_room _ _ _ _ _ _ _ _ c.loop-c.invariant c.loop-c-test.true _ _ (sym c.read_field.ensures ∙ ap told c.in-Got.is))
 
 pub read_rules-requires : goal.read_rules-requires
 read_rules-requires c =
-    let count_of : field_at c.args.s.now c.loop-c.next 0 (rules_most - c.loop-c.rules) ≡ numeral c.in-Got.count c.in-Got.from = sym c.read_field.ensures ∙ ap told c.in-Got.is in
-    let room_left : c.loop-c.rules + c.in-Got.count ≤ rules_most = more_room _ _ _ _ _ _ _ _ c.loop-c.invariant c.loop-c-test.true _ _ count_of in
     let pre = c.requires in
-    (pre.0, pre.1, room_left)
+    (pre.0, pre.1, more_room _ _ _ _ _ _ _ _ c.loop-c.invariant c.loop-c-test.true _ _ (sym c.read_field.ensures ∙ ap told c.in-Got.is))
 
 pub returns-in-Refused-read_rules : goal.returns-in-Refused-read_rules
 returns-in-Refused-read_rules c =
-    let count_of : field_at c.args.s.now c.loop-c.next 0 (rules_most - c.loop-c.rules) ≡ numeral c.in-Got.count c.in-Got.from = sym c.read_field.ensures ∙ ap told c.in-Got.is in
-    let so = rules_refused _ _ _ _ _ _ _ _ c.loop-c.invariant c.loop-c-test.true _ _ count_of _ c.read_rules.ensures.answer _ _ c.in-Refused-read_rules.is _ in
+    let so = rules_refused _ _ _ _ _ _ _ _ c.loop-c.invariant c.loop-c-test.true _ _ (sym c.read_field.ensures ∙ ap told c.in-Got.is)
+    _ c.read_rules.ensures.answer _ _ c.in-Refused-read_rules.is _ in
     record { answer = so.0; charted = so.1 }
 
 pub overflow_cast-first : goal.overflow_cast-first
 overflow_cast-first c =
-    let count_of : field_at c.args.s.now c.loop-c.next 0 (rules_most - c.loop-c.rules) ≡ numeral c.in-Got.count c.in-Got.from = sym c.read_field.ensures ∙ ap told c.in-Got.is in
-    let room_left : c.loop-c.rules + c.in-Got.count ≤ rules_most = more_room _ _ _ _ _ _ _ _ c.loop-c.invariant c.loop-c-test.true _ _ count_of in
-    omega (arith, room_left)
+    omega (arith, more_room _ _ _ _ _ _ _ _ c.loop-c.invariant c.loop-c-test.true _ _ (sym c.read_field.ensures ∙ ap told c.in-Got.is))
 
 pub bounds-first-c : goal.bounds-first-c
 bounds-first-c c =
@@ -55,9 +45,8 @@ loop-c-smaller c =
 
 pub loop-c-preserved : goal.loop-c-preserved
 loop-c-preserved c =
-    let count_of : field_at c.args.s.now c.loop-c.next 0 (rules_most - c.loop-c.rules) ≡ numeral c.in-Got.count c.in-Got.from = sym c.read_field.ensures ∙ ap told c.in-Got.is in
     let lt = c.loop-c-test.true in
-    rules_got _ _ _ _ _ _ _ _ c.loop-c.invariant lt _ _ count_of _ c.read_rules.ensures.answer _ _ c.in-Got-read_rules.is _
+    rules_got _ _ _ _ _ _ _ _ c.loop-c.invariant lt _ _ (sym c.read_field.ensures ∙ ap told c.in-Got.is) _ c.read_rules.ensures.answer _ _ c.in-Got-read_rules.is _
     (charting_next _ _ _ _ _ _ _ _ _ _ _ _ _ _ _ _ _ _ c.loop-c.invariant lt c.requires.1 _ _ _ c.read_rules.ensures.noted)
 
 pub returns : goal.returns
