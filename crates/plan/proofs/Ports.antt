@@ -21,7 +21,7 @@ use Rattle.plan.specs.declared.PlanStep.TheVariants as step
 use Rattle.plan.specs.declared.PortRead.{PortRead}
 use Rattle.plan.specs.declared.PortRead.TheVariants as port
 use Rattle.plan.specs.Contents.{slots, lows, highs, numbers, all_ranges, starts}
-use Rattle.plan.specs.Written.{standing, Ends, ends, Wide, laid, Tables, one_port, RangesAre, PortIs, PortsAre}
+use Rattle.plan.specs.Written.{standing, Ends, Wide, laid, Tables, one_port, RangesAre, PortIs, PortsAre}
 use Rattle.plan.proofs.Fields.{field_bad, field_got}
 use Rattle.plan.proofs.Told.{Ported, ranges_bad, ranges_got, port_bad, port_got}
 use Rattle.plan.proofs.Ranges.{ends_same}

@@ -28,7 +28,14 @@ phase_few (phase.refused rule source) = omega arith
 module _ (st : State) (place : st.place ≤ greatest) (count : st.count ≤ greatest) (lows : length st.low ≡ spans_most) (highs : length st.high ≡ spans_most) where
   pub words_hold_state : state_in (state_words st) ≡ st
   words_hold_state =
-      rw (← fits st.place place, ← fits st.count count, phase_back st.phase, take_at st.low st.high spans_most lows, drop_at st.low st.high spans_most lows, take_all spans_most st.high (omega arith))
+      rw (
+        ← fits st.place place,
+        ← fits st.count count,
+        phase_back st.phase,
+        take_at st.low st.high spans_most lows,
+        drop_at st.low st.high spans_most lows,
+        take_all spans_most st.high (omega arith),
+      )
 
   pub step_over_words : (book list : List ℕ) → step_over book list (state_words st) ≡ step_entry book list st
   step_over_words book list = over book list (state_words st) (phase_few st.phase) st (sym words_hold_state)

@@ -27,6 +27,7 @@ put_parts w a b c m n p q r =
     let z : 0 + length a ≡ length a = zero-add (length a) in
     let l : length (a ++ b) ≡ n = simp length-append (omega arith) in
     let f : put (put w 0 a) m b ≡ put w 0 (a ++ b) = ap (λ k. put (put w 0 a) k b) (p ∙ sym z) ∙ put_put w 0 a b (omega arith) in
-    let g : put (put w 0 (a ++ b)) n c ≡ put w 0 ((a ++ b) ++ c) = ap (λ k. put (put w 0 (a ++ b)) k c) (sym l ∙ sym (zero-add (length (a ++ b)))) ∙ put_put w 0 (a ++ b) c (omega arith) in
+    let g : put (put w 0 (a ++ b)) n c ≡ put w 0 ((a ++ b) ++ c) =
+    ap (λ k. put (put w 0 (a ++ b)) k c) (sym l ∙ sym (zero-add (length (a ++ b)))) ∙ put_put w 0 (a ++ b) c (omega arith) in
     let e : length ((a ++ b) ++ c) ≡ length w = simp length-append (omega arith) in
     rw f (g ∙ put_front w ((a ++ b) ++ c) ∙ rw (e, drop-length) (append-nil ((a ++ b) ++ c) ∙ append_assoc a b c))

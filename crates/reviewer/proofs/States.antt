@@ -32,7 +32,8 @@ module _ (n rule source : ℕ) where
   pub refuses : (n ≡ 0 → ⊥) → (n ≡ 1 → ⊥) → phase.refused rule source ≡ phase_in n rule source
   refuses z e = let k : eqb n 0 ≡ _ = ne_eqb n 0 z in let l : eqb n 1 ≡ _ = ne_eqb n 1 e in rw (k, l)
 
-pub state_is : (ws low high : List ℕ) (p : Phase) → low ≡ take spans_most (drop state_head ws) → high ≡ take spans_most (drop (state_head + spans_most) ws) → p ≡ phase_in (get_or ws 2 0) (get_or ws 3 0) (get_or ws 4 0) →
+pub state_is : (ws low high : List ℕ) (p : Phase) → low ≡ take spans_most (drop state_head ws) → high ≡ take spans_most (drop (state_head + spans_most) ws) →
+    p ≡ phase_in (get_or ws 2 0) (get_or ws 3 0) (get_or ws 4 0) →
     ◌≡◌ {A = State} record { port = get_or ws 0 0; place = get_or ws 1 0; count = get_or ws 5 0; low = low; high = high; phase = p } (state_in ws)
 state_is ws low high p a b e = rw (a, b, e)
 
@@ -51,7 +52,8 @@ module _ (book list ws : List ℕ) (many : 2 < get_or ws 2 0) where
   kept (fine b) = refl
   kept (refused n p) = refl
 
-  pub step_stray : (r : List ℕ) → r ≡ step_words (stray_over book (get_or ws 1 0)) → (r ≡ step_words (step_over book list ws)) × (ws ≡ state_words_after (step_over book list ws) ws)
+  pub step_stray : (r : List ℕ) → r ≡ step_words (stray_over book (get_or ws 1 0)) →
+      (r ≡ step_words (step_over book list ws)) × (ws ≡ state_words_after (step_over book list ws) ws)
   step_stray r e = (e ∙ ap step_words (sym over_stray), kept (readable book) ∙ ap (λ a. state_words_after a ws) (sym over_stray))
 
 -- a state: as the call over it

@@ -18,22 +18,26 @@ module _ (x y : List ℕ) where
   pub one_rule : (book : List ℕ) (rule : ℕ) → x ≡ rule_words (rule_bounds book rule) → y ≡ rule_words (rule_bounds book rule) → x ≡ y
   one_rule book rule p q = p ∙ sym q
 
-  pub one_chain_verdict : (book answers packet : List ℕ) → x ≡ verdict_words (chain_entry book answers (packet_in packet)) → y ≡ verdict_words (chain_entry book answers (packet_in packet)) → x ≡ y
+  pub one_chain_verdict : (book answers packet : List ℕ) → x ≡ verdict_words (chain_entry book answers (packet_in packet)) →
+      y ≡ verdict_words (chain_entry book answers (packet_in packet)) → x ≡ y
   one_chain_verdict book answers packet p q = p ∙ sym q
 
 -- the answer's words, and the lent words
 abbrev pub Leaves : {A : Type 0} → (Answer A → List ℕ) → Answer A → List ℕ → List ℕ → List ℕ → List ℕ → Type 0
 Leaves in_words a book lent answer after = (answer ≡ in_words a) × (after ≡ words_after a book lent)
 
-one : {A : Type 0} (in_words : Answer A → List ℕ) (a : Answer A) (book lent x y w v : List ℕ) → Leaves in_words a book lent x w → Leaves in_words a book lent y v → (x ≡ y) × (w ≡ v)
+one : {A : Type 0} (in_words : Answer A → List ℕ) (a : Answer A) (book lent x y w v : List ℕ) → Leaves in_words a book lent x w →
+    Leaves in_words a book lent y v → (x ≡ y) × (w ≡ v)
 one in_words a book lent x y w v p q = (p.0 ∙ sym q.0, p.1 ∙ sym q.1)
 
 module _ (book lent x y w v : List ℕ) where
-  pub one_unfold : Leaves unfold_words (unfold_entry book (length lent)) book lent x w → Leaves unfold_words (unfold_entry book (length lent)) book lent y v → (x ≡ y) × (w ≡ v)
+  pub one_unfold : Leaves unfold_words (unfold_entry book (length lent)) book lent x w →
+      Leaves unfold_words (unfold_entry book (length lent)) book lent y v → (x ≡ y) × (w ≡ v)
   one_unfold = one unfold_words (unfold_entry book (length lent)) book lent x y w v
 
   pub one_list_verdict : (answers packet : List ℕ) →
-      Leaves verdict_words (list_entry book answers (packet_in packet) (length lent)) book lent x w → Leaves verdict_words (list_entry book answers (packet_in packet) (length lent)) book lent y v → (x ≡ y) × (w ≡ v)
+      Leaves verdict_words (list_entry book answers (packet_in packet) (length lent)) book lent x w →
+      Leaves verdict_words (list_entry book answers (packet_in packet) (length lent)) book lent y v → (x ≡ y) × (w ≡ v)
   one_list_verdict answers packet = one verdict_words (list_entry book answers (packet_in packet) (length lent)) book lent x y w v
 
   pub one_closure : (upper : ℕ) (packet : List ℕ) →
@@ -42,7 +46,8 @@ module _ (book lent x y w v : List ℕ) where
   one_closure upper packet = one verdict_words (closure_entry (closure_of upper) book (packet_in packet) (length lent)) book lent x y w v
 
   pub one_review : (plan : List ℕ) (port : ℕ) →
-      Leaves review_words (review_entry book plan port (length lent)) book lent x w → Leaves review_words (review_entry book plan port (length lent)) book lent y v → (x ≡ y) × (w ≡ v)
+      Leaves review_words (review_entry book plan port (length lent)) book lent x w →
+      Leaves review_words (review_entry book plan port (length lent)) book lent y v → (x ≡ y) × (w ≡ v)
   one_review plan port = one review_words (review_entry book plan port (length lent)) book lent x y w v
 
 -- the answer's words, the state's, and the lent words
@@ -50,7 +55,8 @@ abbrev pub Begins : Answer Started → List ℕ → List ℕ → List ℕ → Li
 Begins a book lent state answer after words = (answer ≡ start_words a) × (after ≡ start_state a state) × (words ≡ words_after a book lent)
 
 pub one_start : (book plan : List ℕ) (port : ℕ) (lent state x y s t w v : List ℕ) →
-    Begins (start_entry book plan port (length lent)) book lent state x s w → Begins (start_entry book plan port (length lent)) book lent state y t v → (x ≡ y) × (s ≡ t) × (w ≡ v)
+    Begins (start_entry book plan port (length lent)) book lent state x s w →
+    Begins (start_entry book plan port (length lent)) book lent state y t v → (x ≡ y) × (s ≡ t) × (w ≡ v)
 one_start book plan port lent state x y s t w v p q = (p.0 ∙ sym q.0, p.1 ∙ sym q.1, p.2 ∙ sym q.2)
 
 -- the answer's words, the text, and the lent words

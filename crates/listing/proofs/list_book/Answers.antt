@@ -1,5 +1,4 @@
 -- `listing::list_book` meets its contract: what `room` and `unfold` say of the book that was read. Assumes nothing.
-use borrow.Author.Rules.{rules}
 use Rattle.checking.proofs.Uses.{readable_passes}
 use Rattle.listing.proofs.Laws.{charted, short, can_unfold, enough, holds}
 use Rattle.listing.proofs.list_book.Goals as goal

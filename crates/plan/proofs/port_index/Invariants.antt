@@ -1,10 +1,7 @@
 -- `plan::port_index` meets its contract. The loop's invariant: what is left to ask from port i on is the whole answer. Assumes nothing.
-use Prim.Native.Nat.{◌+◌, ◌-◌, ◌≤◌}
-use mathlib.Core.Path.{◌≡◌, sym, ◌∙◌}
-use native.Mathlib.Omega.{arith}
-use native.Mathlib.Nat.{sub-zero}
+use Prim.Native.Nat.{◌-◌, ◌≤◌}
+use mathlib.Core.Path.{◌≡◌}
 use Rattle.plan.specs.Contents.{asked}
-use Rattle.plan.proofs.Asking.{asked_none, asked_here, asked_later}
 use Rattle.plan.proofs.port_index.Given as goal
 
 abbrev pub invariant-loop-i : goal.invariant-loop-i

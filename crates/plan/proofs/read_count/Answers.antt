@@ -2,7 +2,6 @@
 use mathlib.Core.Path.{sym, ap, ◌∙◌}
 use Rattle.numbers.specs.Told.{told}
 use Rattle.plan.proofs.Whole.{edition_bad, many_bad, many_got}
-use borrow.Author.Rules.{rules}
 use Rattle.plan.proofs.read_count.Goals as goal
 
 pub returns-in-Refused : goal.returns-in-Refused

@@ -3,7 +3,6 @@ use mathlib.Core.Path.{◌∙◌}
 use Rattle.plan.specs.Written.{standing, port_count}
 use Rattle.plan.proofs.Told.{count_got}
 use Rattle.plan.proofs.Whole.{empty_sized, plan_long, head_bad, body_bad, extra, fine_plan}
-use borrow.Author.Rules.{rules}
 use Rattle.plan.proofs.read_plan.Goals as goal
 
 pub returns-then-s-gt-BYTES : goal.returns-then-s-gt-BYTES

@@ -1,15 +1,9 @@
 -- `plan::read_ports` meets its contract. The loop's invariant: to write the ports that are left is to write all. Assumes nothing.
-use Prim.Native.Nat.{◌+◌, ◌-◌, ◌*◌, ◌≤◌, ◌<◌}
-use borrow.Author.Rules.{rules}
-use native.Mathlib.Omega.{arith}
-use native.Mathlib.Nat.{sub-zero}
-use lib.ListN.{length, length-set}
-use Rattle.model.specs.Limits.{ports_most, ranges_most}
+use Prim.Native.Nat.{◌-◌, ◌*◌, ◌≤◌}
+use Rattle.model.specs.Limits.{ranges_most}
 use Rattle.model.specs.Plan.{ports_from}
 use Rattle.plan.specs.declared.PlanStep.{PlanStep}
-use Rattle.plan.specs.Contents.{slots}
-use Rattle.plan.specs.Written.{standing, Tables, tables, Sized, Wide, ends, one_port, PortsAre}
-use Rattle.plan.proofs.Ports.{room, all_room, more_room, port_leaves, ports_none, ports_stop, ports_more}
+use Rattle.plan.specs.Written.{standing, Tables, tables, Sized, PortsAre}
 use Rattle.plan.proofs.read_ports.Given as goal
 
 abbrev pub invariant-loop-i : goal.invariant-loop-i
@@ -18,7 +12,9 @@ invariant-loop-i l =
       sized : Sized (tables l.number l.first l.low l.high);
       on : l.i ≤ l.count;
       room : l.to ≤ l.i * ranges_most;
-      rest : (r : PlanStep) (t : Tables) → PortsAre (l.count - l.i) l.i l.to (tables l.number l.first l.low l.high) t r (ports_from (l.count - l.i) l.least l.s (standing l.next)) → PortsAre l.count 0 0 (tables l.initial.number l.initial.first l.initial.low l.initial.high) t r (ports_from l.count 0 l.s (standing l.at));
+      rest : (r : PlanStep) (t : Tables)
+          → PortsAre (l.count - l.i) l.i l.to (tables l.number l.first l.low l.high) t r (ports_from (l.count - l.i) l.least l.s (standing l.next))
+          → PortsAre l.count 0 0 (tables l.initial.number l.initial.first l.initial.low l.initial.high) t r (ports_from l.count 0 l.s (standing l.at));
     }
 
 abbrev pub decreases-loop-i : goal.decreases-loop-i

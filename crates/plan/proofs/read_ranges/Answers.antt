@@ -1,17 +1,12 @@
 -- `plan::read_ranges` meets its contract. The loop's invariant: to write the ranges that are left is to write all. Assumes nothing.
-use Prim.Native.Nat.{◌+◌, ◌≤◌, ◌<◌}
+use Prim.Native.Nat.{◌<◌}
 use mathlib.Core.Path.{◌≡◌, sym, ap, ◌∙◌}
-use borrow.Author.Rules.{rules}
 use native.Mathlib.Omega.{arith}
 use lib.ListN.{length, length-set}
 use Rattle.model.specs.Limits.{greatest}
 use Rattle.model.specs.Number.{numeral}
-use Rattle.model.specs.Plan.{ranges_from}
 use Rattle.numbers.specs.Told.{told}
 use Rattle.numbers.specs.Field.{field_at}
-use Rattle.plan.specs.declared.PlanStep.{PlanStep}
-use Rattle.plan.specs.Contents.{slots}
-use Rattle.plan.specs.Written.{standing, Ends, ends, Wide, RangesAre}
 use Rattle.plan.proofs.Ranges.{ranges_none, ranges_low, ranges_high, ranges_more}
 use Rattle.plan.proofs.read_ranges.Goals as goal
 
@@ -24,12 +19,15 @@ returns-in-Refused c =
 
 pub returns-in-Refused-read_field : goal.returns-in-Refused-read_field
 returns-in-Refused-read_field c =
-    let low_is : let l = c.loop-left in field_at c.args.s.now l.next l.least greatest ≡ numeral c.in-Got.from c.in-Got.middle = sym c.read_field.ensures ∙ ap told c.in-Got.is in
-    c.loop-left.invariant.rest _ _ (ranges_high _ _ _ _ _ _ _ _ _ (low_is) _ _ c.loop-left-test.true (sym c.read_field-in-Got.ensures ∙ ap told c.in-Refused-read_field.is))
+    let low_is : field_at c.args.s.now c.loop-left.next c.loop-left.least greatest ≡ numeral c.in-Got.from c.in-Got.middle =
+    sym c.read_field.ensures ∙ ap told c.in-Got.is in
+    c.loop-left.invariant.rest _ _
+    (ranges_high _ _ _ _ _ _ _ _ _ low_is _ _ c.loop-left-test.true (sym c.read_field-in-Got.ensures ∙ ap told c.in-Refused-read_field.is))
 
 pub loop-left-preserved : goal.loop-left-preserved
 loop-left-preserved c =
-    let low_is : let l = c.loop-left in field_at c.args.s.now l.next l.least greatest ≡ numeral c.in-Got.from c.in-Got.middle = sym c.read_field.ensures ∙ ap told c.in-Got.is in
+    let low_is : field_at c.args.s.now c.loop-left.next c.loop-left.least greatest ≡ numeral c.in-Got.from c.in-Got.middle =
+    sym c.read_field.ensures ∙ ap told c.in-Got.is in
     let i = c.loop-left.i in
     let some = c.loop-left-test.true in
     let in-low : i < length c.loop-left.low = omega (arith, c.loop-left.invariant.wide.low, c.loop-left.invariant.room, some) in
@@ -37,7 +35,8 @@ loop-left-preserved c =
     record {
       wide = record { low = simp length-set c.loop-left.invariant.wide.low; high = simp length-set c.loop-left.invariant.wide.high };
       room = omega (arith, c.loop-left.invariant.room, some);
-      rest = λ r e h. c.loop-left.invariant.rest r e (ranges_more _ _ _ _ _ _ _ _ _ (low_is) r _ _ _ some (sym c.read_field-in-Got.ensures ∙ ap told c.in-Got-read_field.is) in-low in-high h);
+      rest = λ r e h. c.loop-left.invariant.rest r e
+          (ranges_more _ _ _ _ _ _ _ _ _ low_is r _ _ _ some (sym c.read_field-in-Got.ensures ∙ ap told c.in-Got-read_field.is) in-low in-high h);
     }
 
 pub returns : goal.returns

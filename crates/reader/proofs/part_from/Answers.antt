@@ -6,7 +6,6 @@ use mathlib.Core.List.{List}
 use native.Mathlib.Omega.{arith}
 use lib.ListN.{length, take, drop, length-drop, drop_of_length-le}
 use lib.Seq.{take-length}
-use borrow.Author.Rules.{rules}
 use Rattle.reader.proofs.part_from.Goals as goal
 
 all_left : (at : ℕ) (s : List ℕ) → take (length s - at) (drop at s) ≡ drop at s

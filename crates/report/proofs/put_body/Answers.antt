@@ -3,7 +3,6 @@ use mathlib.Core.Path.{refl}
 use Rattle.model.specs.Plan.{plan_of}
 use Rattle.plan.proofs.Charted.{answer_fine, answer_refused}
 use Rattle.report.proofs.Parts.{plan_refuses, plan_answers}
-use borrow.Author.Rules.{rules}
 use Rattle.report.proofs.put_body.Goals as goal
 
 pub put_list-requires : goal.put_list-requires
@@ -13,7 +12,8 @@ put_list-requires c =
 
 pub returns-in-Refused : goal.returns-in-Refused
 returns-in-Refused c = λ b e.
-    plan_refuses b c.args.plan.now c.args.book.now c.args.words.now c.args.words.now _ _ _ _ _ _ (answer_refused (plan_of c.args.plan.now) _ _ _ c.read_plan-answer.ensures c.in-Refused.is) refl c.put_refusal.ensures
+    plan_refuses b c.args.plan.now c.args.book.now c.args.words.now c.args.words.now _ _ _ _ _ _
+    (answer_refused (plan_of c.args.plan.now) _ _ _ c.read_plan-answer.ensures c.in-Refused.is) refl c.put_refusal.ensures
 
 pub returns-in-Fine : goal.returns-in-Fine
 returns-in-Fine c = λ b e.

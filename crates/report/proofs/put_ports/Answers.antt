@@ -1,7 +1,6 @@
 -- Each turn is one port, by the laws of PortLoop.
-use Prim.Native.Nat.{◌-◌}
 use native.Mathlib.Omega.{arith}
-use Rattle.report.proofs.PortLoop.{Going, starts, ends, line_room, next, plan_shape}
+use Rattle.report.proofs.PortLoop.{starts, ends, line_room, next, plan_shape}
 use Rattle.report.proofs.put_ports.Goals as goal
 
 pub loop-i-init : goal.loop-i-init
@@ -17,7 +16,8 @@ pub bounds-number-i : goal.bounds-number-i
 bounds-number-i c = omega (arith, (plan_shape c.args.plan c.requires.1).few, c.loop-i-test.true)
 
 pub put_port-to-requires : goal.put_port-to-requires
-put_port-to-requires c = line_room c.args.book.now c.args.plan c.args.buf.now c.args.at c.loop-i.buf c.loop-i.to c.loop-i.i c.loop-i.invariant c.requires.1 c.loop-i-test.true c.requires.2
+put_port-to-requires c =
+    line_room c.args.book.now c.args.plan c.args.buf.now c.args.at c.loop-i.buf c.loop-i.to c.loop-i.i c.loop-i.invariant c.requires.1 c.loop-i-test.true c.requires.2
 
 pub overflow_add-i : goal.overflow_add-i
 overflow_add-i c = omega (arith, (plan_shape c.args.plan c.requires.1).few, c.loop-i-test.true)
@@ -26,7 +26,9 @@ pub loop-i-smaller : goal.loop-i-smaller
 loop-i-smaller c = omega (arith, c.loop-i-test.true)
 
 pub loop-i-preserved : goal.loop-i-preserved
-loop-i-preserved c = next c.args.book.now c.args.plan c.args.buf.now c.args.at c.loop-i.buf c.loop-i.to c.loop-i.i c.loop-i.invariant c.requires.1 c.loop-i-test.true c.review_port-phase.result c.review_port-phase.ensures _ _ c.put_port-to.ensures
+loop-i-preserved c =
+    next c.args.book.now c.args.plan c.args.buf.now c.args.at c.loop-i.buf c.loop-i.to c.loop-i.i c.loop-i.invariant c.requires.1 c.loop-i-test.true
+    c.review_port-phase.result c.review_port-phase.ensures _ _ c.put_port-to.ensures
 
 pub shape_of-buf : goal.shape_of-buf
 shape_of-buf c = c.loop-i.invariant.same

@@ -1,7 +1,6 @@
 -- Each turn is one port, by the laws of PortLoop.
 use Prim.Native.Nat.{◌-◌}
-use native.Mathlib.Omega.{arith}
-use Rattle.report.proofs.PortLoop.{Going, starts, ends, line_room, next, plan_shape}
+use Rattle.report.proofs.PortLoop.{Going}
 use Rattle.report.proofs.put_ports.Given as goal
 
 abbrev pub invariant-loop-i : goal.invariant-loop-i

@@ -15,8 +15,10 @@ bounds-number-i c = omega (arith, (plan_shape c.args.plan c.requires.1).few, c.r
 
 pub review_list-requires : goal.review_list-requires
 review_list-requires c =
-    reviewable c.args.book.now c.args.words.now c.args.count c.requires.0 c.args.plan c.requires.1 c.args.i c.requires.2 c.port_suspects-suspects.result c.port_suspects-suspects.ensures
+    reviewable c.args.book.now c.args.words.now c.args.count c.requires.0 c.args.plan c.requires.1 c.args.i c.requires.2
+    c.port_suspects-suspects.result c.port_suspects-suspects.ensures
 
 pub returns : goal.returns
 returns c =
-    reviewed c.args.book.now c.args.words.now c.args.count c.requires.0 c.args.plan c.requires.1 c.args.i c.requires.2 c.port_suspects-suspects.result c.port_suspects-suspects.ensures c.review_list.result c.review_list.ensures
+    reviewed c.args.book.now c.args.words.now c.args.count c.requires.0 c.args.plan c.requires.1 c.args.i c.requires.2
+    c.port_suspects-suspects.result c.port_suspects-suspects.ensures c.review_list.result c.review_list.ensures

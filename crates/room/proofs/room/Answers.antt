@@ -1,12 +1,9 @@
 -- The ranks below the level have their needs; every rank is below the number of chains, so the entry has its own.
-use Prim.Native.Nat.{ℕ, ◌≤◌, ◌-◌}
 use native.Mathlib.Omega.{arith}
 use lib.ListN.{length}
-use Rattle.calls.specs.Weights.{rank_in}
 use Rattle.calls.proofs.Charted.{charted_actions}
-use Rattle.room.specs.declared.Need.{Need}
 use Rattle.room.specs.Counting.{chain_need}
-use Rattle.room.specs.Capped.{kept, Kept, Counting, Upto}
+use Rattle.room.specs.Capped.{kept}
 use Rattle.room.proofs.Exact.{list_need}
 use Rattle.room.proofs.Ranks.{none_kept}
 use Rattle.room.proofs.Recursive.{counting}
@@ -14,15 +11,6 @@ use Rattle.room.proofs.room.Goals as goal
 
 pub loop-level-init : goal.loop-level-init
 loop-level-init c = (omega arith, none_kept, λ f by x l r. absurd (omega arith))
-
-pub overflow_cast-level : goal.overflow_cast-level
-overflow_cast-level c = omega (arith, c.requires.few)
-
-pub count_rank-requires : goal.count_rank-requires
-count_rank-requires c = (c.requires, c.loop-level.invariant.1)
-
-pub overflow_add-level : goal.overflow_add-level
-overflow_add-level c = omega (arith, c.requires.few)
 
 pub loop-level-preserved : goal.loop-level-preserved
 loop-level-preserved c =
@@ -41,5 +29,6 @@ returns c =
       omega (arith, (c.loop-level.invariant.1.small 0).words),
       λ b expression k by p.
           let of-chains = counting (charted_actions k) p.free by in
-          list_need b p (kept c.loop-level.counts c.loop-level.words 0) (c.loop-level.invariant.2 (chain_need (length b.chains) b) of-chains 0 c.requires.some (omega (arith, by.below 0 c.requires.some))),
+          list_need b p (kept c.loop-level.counts c.loop-level.words 0)
+          (c.loop-level.invariant.2 (chain_need (length b.chains) b) of-chains 0 c.requires.some (omega (arith, by.below 0 c.requires.some))),
     )

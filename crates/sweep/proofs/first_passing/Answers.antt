@@ -54,7 +54,7 @@ pub returns-in-At : goal.returns-in-At
 returns-in-At c = let a = c.args in λ cs k w ss top r s.
     sought_found spans_most ss top a.low.now a.high.now (minus ss (split_conditions a.port cs).false) (passes a.port cs) (passing a.port cs top ss r)
     c.loop-left.at c.loop-left.left (c.loop-left.invariant.1 cs k w ss top r s)
-      c.loop-left-test.true (get_or a.low.now c.loop-left.at 0) (get_or a.high.now c.loop-left.at 0)
+    c.loop-left-test.true (get_or a.low.now c.loop-left.at 0) (get_or a.high.now c.loop-left.at 0)
     refl refl c.first_in-f.ensures.fits c.in-At.x
     (subst (λ (f : Lowest). LowestIn (passes a.port cs) (get_or a.low.now c.loop-left.at 0) (get_or a.high.now c.loop-left.at 0) f)
     c.in-At.is (c.first_in-f.ensures.first cs k w))

@@ -1,5 +1,4 @@
 -- `verdicts::answered` meets its contract: the book, then the answers. Assumes nothing.
-use borrow.Author.Rules.{rules}
 use mathlib.Core.Path.{sym, ◌∙◌}
 use Rattle.verdicts.proofs.Entries.{book_refused, answers_refused, answers_fine}
 use Rattle.verdicts.proofs.answered.Goals as goal

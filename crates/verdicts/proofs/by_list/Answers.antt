@@ -1,5 +1,4 @@
 -- `verdicts::by_list` meets its contract: the list, and then its verdict. Assumes nothing.
-use borrow.Author.Rules.{rules}
 use Rattle.verdicts.proofs.Laws.{opened_as, can_list, can_judge, judged_small, decides_short, decides_list}
 use Rattle.verdicts.proofs.by_list.Goals as goal
 
@@ -14,7 +13,8 @@ list_verdict-value-requires c =
 pub named-requires : goal.named-requires
 named-requires c =
     let o = c.requires.opened in
-    judged_small o.book _ _ c.args.exact c.args.upper c.args.answers.now c.args.p _ o.read _ (c.list_book-listed.ensures _ o.book o.read o.contents) _ _ c.in-Counts.is _ c.list_verdict-value.ensures
+    judged_small o.book _ _ c.args.exact c.args.upper c.args.answers.now c.args.p _ o.read _ (c.list_book-listed.ensures _ o.book o.read o.contents) _ _ c.in-Counts.is
+    _ c.list_verdict-value.ensures
 
 pub returns-in-Refused : goal.returns-in-Refused
 returns-in-Refused c = λ b e.
@@ -22,4 +22,5 @@ returns-in-Refused c = λ b e.
 
 pub returns-in-Counts : goal.returns-in-Counts
 returns-in-Counts c = λ b e.
-    decides_list b _ _ c.args.exact c.args.upper c.args.answers.now c.args.p _ e _ (c.list_book-listed.ensures _ b e (opened_as c.requires.opened b e)) _ _ c.in-Counts.is _ c.list_verdict-value.ensures _ c.named.ensures
+    decides_list b _ _ c.args.exact c.args.upper c.args.answers.now c.args.p _ e _ (c.list_book-listed.ensures _ b e (opened_as c.requires.opened b e)) _ _ c.in-Counts.is
+    _ c.list_verdict-value.ensures _ c.named.ensures

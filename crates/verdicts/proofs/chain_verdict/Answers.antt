@@ -1,5 +1,4 @@
 -- `verdicts::chain_verdict` meets its contract: the check of the book and the answers, and then its chains. Assumes nothing.
-use borrow.Author.Rules.{rules}
 use mathlib.Core.Path.{sym, ◌∙◌}
 use Rattle.verdicts.proofs.Entries.{opened, both, chain_refused, chain_meets}
 use Rattle.verdicts.proofs.chain_verdict.Goals as goal

@@ -1,5 +1,4 @@
 -- `review::rules::is_rule` meets its contract: each test by itself, and then the conditions. Assumes nothing.
-use Prim.Native.Nat.{◌+◌}
 use native.Mathlib.Omega.{arith}
 use Rattle.review.proofs.ToldRules.{rule_short, rule_long, rule_other, rule_by_conditions}
 use Rattle.review.proofs.rules.is_rule.Goals as goal
@@ -9,9 +8,6 @@ returns-then-len-place c = let a = c.args in λ b k. rule_short b a.words.now a.
 
 pub returns-then-left-lt3 : goal.returns-then-left-lt3
 returns-then-left-lt3 c = let a = c.args in λ b k. rule_short b a.words.now a.place (omega (arith, c.if-left-lt3.true, c.if-len-place.false))
-
-pub overflow_cast-count : goal.overflow_cast-count
-overflow_cast-count c = let a = c.args in omega (arith, c.shared_slice_known-2-1.given (a.place + 2))
 
 pub returns-then-rest-count : goal.returns-then-rest-count
 returns-then-rest-count c = let a = c.args in λ b k. rule_long b a.words.now a.place (omega (arith, c.if-left-lt3.false, c.if-len-place.false))

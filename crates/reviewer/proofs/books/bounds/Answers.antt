@@ -1,5 +1,4 @@
 -- `reviewer::books::bounds` meets its contract, case by case. Assumes nothing.
-use borrow.Author.Rules.{rules}
 use Rattle.reviewer.proofs.books.bounds.Goals as goal
 
 pub returns-in-Refused : goal.returns-in-Refused

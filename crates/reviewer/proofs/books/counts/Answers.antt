@@ -1,5 +1,4 @@
 -- `reviewer::books::counts` meets its contract, case by case. Assumes nothing.
-use borrow.Author.Rules.{rules}
 use Rattle.reviewer.proofs.books.counts.Goals as goal
 
 pub returns-in-Refused : goal.returns-in-Refused

@@ -1,7 +1,6 @@
 -- `reviewer::tannenlaut_check` meets its contract: the check, in words. Assumes nothing.
 use mathlib.Core.Path.{◌∙◌}
 use Rattle.reviewer.proofs.Laws.{check_refused, check_fine}
-use borrow.Author.Rules.{rules}
 use Rattle.reviewer.proofs.books.tannenlaut_check.Goals as goal
 
 pub returns-in-Refused : goal.returns-in-Refused

@@ -4,21 +4,18 @@ use lib.ListN.{length}
 use Rattle.model.specs.Report.{report}
 use Rattle.reviewer.specs.Words.{given_words}
 use Rattle.reviewer.proofs.Beginnings.{report_written, report_short}
-use borrow.Author.Rules.{rules}
 use Rattle.reviewer.proofs.reporting.tannenlaut_report.Goals as goal
 
-pub returns-in-Bytes : goal.returns-in-Bytes
-returns-in-Bytes c =
-    let k = c.report-reported in
-    let s = c.args in
-    let t = report s.book.now s.plan.now (length s.words.now) in (
-      c.given.ensures ∙ ap (λ n. given_words n 0 0) c.word.ensures ∙ report_written t (length s.text.now) k.result k.ensures.0 _ c.in-Bytes.is,
-      (k.ensures.1.0, k.ensures.1.1),
-    )
-
-pub returns-in-Short : goal.returns-in-Short
-returns-in-Short c =
+pub returns-in-Bytes-clause-answer : goal.returns-in-Bytes-clause-answer
+returns-in-Bytes-clause-answer c =
     let k = c.report-reported in
     let s = c.args in
     let t = report s.book.now s.plan.now (length s.words.now) in
-    (c.refusal.ensures ∙ report_short t (length s.text.now) k.result k.ensures.0 _ c.in-Short.is, (k.ensures.1.0, k.ensures.1.1))
+    c.given.ensures ∙ ap (λ n. given_words n 0 0) c.word.ensures ∙ report_written t (length s.text.now) k.result k.ensures.answer _ c.in-Bytes.is
+
+pub returns-in-Short-clause-answer : goal.returns-in-Short-clause-answer
+returns-in-Short-clause-answer c =
+    let k = c.report-reported in
+    let s = c.args in
+    let t = report s.book.now s.plan.now (length s.words.now) in
+    c.refusal.ensures ∙ report_short t (length s.text.now) k.result k.ensures.answer _ c.in-Short.is

@@ -1,5 +1,4 @@
 -- `reviewer::reviews::review_words` meets its contract, case by case. Assumes nothing.
-use borrow.Author.Rules.{rules}
 use Rattle.reviewer.proofs.reviews.review_words.Goals as goal
 
 pub returns-in-Refusal : goal.returns-in-Refusal

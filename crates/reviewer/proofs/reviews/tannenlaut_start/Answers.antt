@@ -2,7 +2,6 @@
 use mathlib.Core.Path.{◌∙◌, ap₂}
 use Rattle.reviewer.specs.Words.{given_words}
 use Rattle.reviewer.proofs.Beginnings.{start_refused, start_given}
-use borrow.Author.Rules.{rules}
 use Rattle.reviewer.proofs.reviews.tannenlaut_start.Goals as goal
 
 pub returns-in-Refused : goal.returns-in-Refused
@@ -10,13 +9,15 @@ returns-in-Refused c =
     let k = c.start-started in
     let s = c.args in
     let w = start_refused _ k.result.answer k.result.state k.ensures.answer s.state.now _ _ c.in-Refused.is in
-    (c.refusal.ensures ∙ w.0, (w.1, k.ensures.lent))
+    record { answer = c.refusal.ensures ∙ w.0; state = w.1; lent = k.ensures.lent }
 
 pub returns-in-Counts : goal.returns-in-Counts
 returns-in-Counts c =
     let k = c.start-started in
     let s = c.args in
-    let w = start_given _ k.result.answer k.result.state k.ensures.answer s.state.now _ _ c.in-Counts.is in (
-      c.given.ensures ∙ ap₂ (λ x y. given_words x y 0) c.word.ensures c.word-in-Counts.ensures ∙ w.0,
-      (c.state_out.ensures ∙ w.1, k.ensures.lent),
-    )
+    let w = start_given _ k.result.answer k.result.state k.ensures.answer s.state.now _ _ c.in-Counts.is in
+    record {
+      answer = c.given.ensures ∙ ap₂ (λ x y. given_words x y 0) c.word.ensures c.word-in-Counts.ensures ∙ w.0;
+      state = c.state_out.ensures ∙ w.1;
+      lent = k.ensures.lent;
+    }

@@ -2,7 +2,6 @@
 use mathlib.Core.Path.{◌∙◌}
 use Rattle.review.specs.States.{state_of}
 use Rattle.reviewer.proofs.States.{words_are}
-use borrow.Author.Rules.{rules}
 use Rattle.reviewer.proofs.slices.state_out.Goals as goal
 
 pub returns : goal.returns

@@ -1,7 +1,6 @@
 -- `reviewer::slices::stray` meets its contract: the check, and then 14. Assumes nothing.
 use mathlib.Core.Path.{◌∙◌}
 use Rattle.reviewer.proofs.States.{stray_refused, stray_fine}
-use borrow.Author.Rules.{rules}
 use Rattle.reviewer.proofs.slices.stray.Goals as goal
 
 pub returns-in-Refused : goal.returns-in-Refused

@@ -1,10 +1,6 @@
 -- `reviewer::state::slots` meets its contract: so many words are taken over as the loop has passed. Assumes nothing.
 use Prim.Native.Nat.{◌≤◌, ◌-◌}
-use native.Mathlib.Omega.{arith}
-use mathlib.Core.Path.{◌≡◌, sym, ◌∙◌}
-use lib.Seq.{take_all}
-use borrow.Author.Rules.{rules}
-use Rattle.reviewer.proofs.Slots.{take_more}
+use mathlib.Core.Path.{◌≡◌}
 use lib.ListN.{length, take, drop}
 use Rattle.model.specs.Limits.{spans_most}
 use Rattle.reviewer.proofs.state.slots.Given as goal

@@ -6,7 +6,6 @@ use lib.ListN.{length-replicate}
 use Rattle.model.specs.Filling.{put}
 use Rattle.reviewer.specs.StateWords.{state_size}
 use Rattle.reviewer.proofs.Slots.{put_parts}
-use borrow.Author.Rules.{rules}
 use Rattle.reviewer.proofs.state.state_words.Goals as goal
 
 pub returns : goal.returns
@@ -16,5 +15,5 @@ returns c =
     let heads = c.well_formed.0.1.0.1 in
     let lows = c.well_formed.1.0.1.0.1 in
     let highs = c.well_formed.1.1.0.1.0.1 in
-    c.with_part.ensures ∙ ap (λ w. put w _ c.args.t3) (second.ensures ∙ ap (λ w. put w _ c.args.t2) first.ensures)
-    ∙ put_parts _ c.args.t1 c.args.t2 c.args.t3 _ _ (sym heads) (omega (arith, lows)) (length-replicate {A = ℕ} state_size 0 ∙ omega (arith, highs))
+    c.with_part.ensures ∙ ap (λ w. put w _ c.args.high) (second.ensures ∙ ap (λ w. put w _ c.args.low) first.ensures)
+    ∙ put_parts _ c.args.head c.args.low c.args.high _ _ (sym heads) (omega (arith, lows)) (length-replicate {A = ℕ} state_size 0 ∙ omega (arith, highs))

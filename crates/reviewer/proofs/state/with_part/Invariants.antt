@@ -1,14 +1,9 @@
 -- `reviewer::state::with_part` meets its contract: as much of the part is put in as the loop has passed. Assumes nothing.
 use Prim.Native.Nat.{◌≤◌, ◌-◌}
-use native.Mathlib.Omega.{arith}
-use mathlib.Core.Path.{◌≡◌, ap, sym, ◌∙◌}
+use mathlib.Core.Path.{◌≡◌}
 use lib.ListN.{length, take}
-use lib.Seq.{take_all}
-use borrow.Author.Rules.{rules}
 use Rattle.model.specs.Filling.{put}
-use Rattle.model.proofs.Filling.{put_none}
 use Rattle.reviewer.specs.StateWords.{state_size}
-use Rattle.reviewer.proofs.Slots.{put_more}
 use Rattle.reviewer.proofs.state.with_part.Given as goal
 
 abbrev pub invariant-loop-i : goal.invariant-loop-i

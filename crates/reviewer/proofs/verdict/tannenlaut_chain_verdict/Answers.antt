@@ -2,7 +2,6 @@
 use mathlib.Core.Path.{◌∙◌, ap}
 use Rattle.model.specs.Entries.{chain_entry}
 use Rattle.reviewer.specs.Words.{verdict_words}
-use borrow.Author.Rules.{rules}
 use Rattle.reviewer.proofs.verdict.tannenlaut_chain_verdict.Goals as goal
 
 pub returns : goal.returns

@@ -4,7 +4,6 @@ use lib.ListN.{length}
 use Rattle.model.specs.Entries.{closure_entry}
 use Rattle.reviewer.specs.Words.{verdict_words}
 use Rattle.reviewer.proofs.Laws.{exported}
-use borrow.Author.Rules.{rules}
 use Rattle.reviewer.proofs.verdict.tannenlaut_closure.Goals as goal
 
 pub returns : goal.returns
@@ -13,5 +12,7 @@ returns c =
     let w = c.is_upper-which in
     let p = c.packet_in-p in
     let s = c.args in
-    exported verdict_words _ _ _ _ _ _ _ c.verdict_words.ensures v.ensures.0 v.ensures.1
-    (ap₂ (λ t q. closure_entry t s.book.now q (length s.words.now)) w.ensures p.ensures)
+    let x =
+    exported verdict_words _ _ _ _ _ _ _ c.verdict_words.ensures v.ensures.answer v.ensures.lent
+    (ap₂ (λ t q. closure_entry t s.book.now q (length s.words.now)) w.ensures p.ensures) in
+    record { answer = x.0; lent = x.1 }

@@ -4,7 +4,6 @@ use lib.ListN.{length}
 use Rattle.model.specs.Entries.{list_entry}
 use Rattle.reviewer.specs.Words.{verdict_words}
 use Rattle.reviewer.proofs.Laws.{exported}
-use borrow.Author.Rules.{rules}
 use Rattle.reviewer.proofs.verdict.tannenlaut_list_verdict.Goals as goal
 
 pub returns : goal.returns
@@ -12,4 +11,7 @@ returns c =
     let v = c.list_verdict in
     let p = c.packet_in-p in
     let s = c.args in
-    exported verdict_words _ _ _ _ _ _ _ c.verdict_words.ensures v.ensures.0 v.ensures.1 (ap (λ q. list_entry s.book.now s.answers.now q (length s.words.now)) p.ensures)
+    let x =
+    exported verdict_words _ _ _ _ _ _ _ c.verdict_words.ensures v.ensures.answer v.ensures.lent
+    (ap (λ q. list_entry s.book.now s.answers.now q (length s.words.now)) p.ensures) in
+    record { answer = x.0; lent = x.1 }

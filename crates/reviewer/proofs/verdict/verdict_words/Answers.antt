@@ -1,5 +1,4 @@
 -- `reviewer::verdict::verdict_words` meets its contract, case by case. Assumes nothing.
-use borrow.Author.Rules.{rules}
 use Rattle.reviewer.proofs.verdict.verdict_words.Goals as goal
 
 pub returns-in-Refused : goal.returns-in-Refused

@@ -1,6 +1,5 @@
 -- `reviewer::words::word` meets its contract, by its test. Assumes nothing.
 use Rattle.reviewer.proofs.Laws.{fits, too_large}
-use borrow.Author.Rules.{rules}
 use Rattle.reviewer.proofs.words.word.Goals as goal
 
 pub returns-then-x-le-GREATEST : goal.returns-then-x-le-GREATEST
