@@ -8,7 +8,8 @@ use Rattle.review.proofs.rules.are_conditions.Given as goal
 
 abbrev pub invariant-loop-left : goal.invariant-loop-left
 invariant-loop-left l =
-    (l.at + l.left ≤ length l.words) × OfBook l.expression l.rules (λ b. found (conditions_in b (take l.count (drop l.from l.words))) ≡ found (conditions_in b (take l.left (drop l.at l.words))))
+    (l.at + l.left ≤ length l.words)
+    × OfBook l.expression l.rules (λ b. found (conditions_in b (take l.count (drop l.from l.words))) ≡ found (conditions_in b (take l.left (drop l.at l.words))))
 
 abbrev pub decreases-loop-left : goal.decreases-loop-left
 decreases-loop-left l = l.left

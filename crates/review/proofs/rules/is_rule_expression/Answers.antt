@@ -19,7 +19,8 @@ pub loop-low-preserved-then-place-at-2 : goal.loop-low-preserved-then-place-at-2
 loop-low-preserved-then-place-at-2 c = window_up _ _ _ c.requires _ _ c.loop-low.invariant _ (omega (arith, c.loop-low-test.true)) c.if-place-at-2.true
 
 pub loop-low-preserved : goal.loop-low-preserved
-loop-low-preserved c = window_down _ _ _ c.requires _ _ c.loop-low.invariant _ (omega (arith, c.loop-low-test.true)) (omega (arith, c.if-place-at-2.false, c.if-place-at.false))
+loop-low-preserved c =
+    window_down _ _ _ c.requires _ _ c.loop-low.invariant _ (omega (arith, c.loop-low-test.true)) (omega (arith, c.if-place-at-2.false, c.if-place-at.false))
 
 pub returns : goal.returns
 returns c = λ b k. window_none _ _ _ b k _ _ c.loop-low.invariant c.loop-low-test.false

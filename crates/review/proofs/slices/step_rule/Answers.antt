@@ -26,4 +26,5 @@ pub returns-else-count-gt-MAX : goal.returns-else-count-gt-MAX
 returns-else-count-gt-MAX c =
     let here = state_told c.args.state _ c.well_formed.1.1.0 c.requires.1 in
     λ r h.
-    step_moves c.args.book.now c.args.list.now c.args.state here _ _ c.take_rule-taken.result c.take_rule-taken.ensures r h _ c.in-Left.is c.if-count-gt-MAX.false c.move_on.result c.move_on.ensures
+    step_moves c.args.book.now c.args.list.now c.args.state here _ _ c.take_rule-taken.result c.take_rule-taken.ensures r h _ c.in-Left.is c.if-count-gt-MAX.false
+    c.move_on.result c.move_on.ensures

@@ -13,14 +13,17 @@ returns-in-Refused c = let a = c.args in
 
 pub returns-in-Refused-phase : goal.returns-in-Refused-phase
 returns-in-Refused-phase c = let a = c.args in
-    let h = whole_rejects a.book.now a.plan.now a.port a.words.now c.start-started.result _ c.start-started.ensures _ _ c.in-Counts.is c.review_list-phase.result c.review_list-phase.ensures _ _ c.in-Refused-phase.is in
+    let h = whole_rejects a.book.now a.plan.now a.port a.words.now c.start-started.result _ c.start-started.ensures _ _ c.in-Counts.is
+    c.review_list-phase.result c.review_list-phase.ensures _ _ c.in-Refused-phase.is in
     record { answer = h.0; lent = h.1 }
 
 pub returns-in-Certified : goal.returns-in-Certified
 returns-in-Certified c = let a = c.args in
-    let h = whole_certified a.book.now a.plan.now a.port a.words.now c.start-started.result _ c.start-started.ensures _ _ c.in-Counts.is c.review_list-phase.result c.review_list-phase.ensures c.in-Certified.is in
+    let h = whole_certified a.book.now a.plan.now a.port a.words.now c.start-started.result _ c.start-started.ensures _ _ c.in-Counts.is
+    c.review_list-phase.result c.review_list-phase.ensures c.in-Certified.is in
     record { answer = h.0; lent = h.1 }
 
 pub returns-in-Running : goal.returns-in-Running
 returns-in-Running c = let a = c.args in
-    whole_runs a.book.now a.plan.now a.port a.words.now c.start-started.result _ c.start-started.ensures _ _ c.in-Counts.is c.review_list-phase.result c.review_list-phase.ensures c.in-Running.is
+    whole_runs a.book.now a.plan.now a.port a.words.now c.start-started.result _ c.start-started.ensures _ _ c.in-Counts.is
+    c.review_list-phase.result c.review_list-phase.ensures c.in-Running.is

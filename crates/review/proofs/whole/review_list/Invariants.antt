@@ -5,7 +5,8 @@ use Rattle.review.proofs.Listing.{Rest}
 use Rattle.review.proofs.whole.review_list.Given as goal
 
 abbrev pub invariant-loop-at : goal.invariant-loop-at
-invariant-loop-at l = (x : Reviewable l.book l.list l.count l.port (record { count = l.initial.n; low = l.initial.low; high = l.initial.high })) → Rest x l.at l.n l.low l.high
+invariant-loop-at l =
+    (x : Reviewable l.book l.list l.count l.port (record { count = l.initial.n; low = l.initial.low; high = l.initial.high })) → Rest x l.at l.n l.low l.high
 
 abbrev pub decreases-loop-at : goal.decreases-loop-at
 decreases-loop-at l = l.count - l.at
