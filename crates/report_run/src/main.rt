@@ -4,9 +4,9 @@
 
 mod books;
 mod cases;
+mod lent_words;
 mod plans;
 mod ports;
-mod room;
 mod show;
 mod texts;
 
@@ -38,7 +38,7 @@ fn refused_plans(book: &[u8]) {
 // C1 and C2's plan.
 fn with_both(book: &[u8], plan: &[u8]) {
     cases::missing(book, plan);
-    room::few(book, plan);
+    lent_words::few(book, plan);
     texts::fine(book, plan);
     texts::words(book, plan);
     texts::refused();
@@ -58,12 +58,12 @@ fn by_ports() {
 }
 
 fn rooms(plan: &[u8]) {
-    room::fewest(plan);
-    room::heaviest(
+    lent_words::fewest(plan);
+    lent_words::heaviest(
         b"\x01\x0D\x01\x04\x06\x01\x00\x06\x01\x00\x00\x04\x1F\x00\x00\x02\x06\x02\x00\x06\x02\x00\x02\x06\x03\x00\x06\x03\x00\x02\x06\x04\x00\x06\x04\x00\x02\x06\x05\x00\x06\x05\x00\x02\x06\x06\x00\x06\x06\x00\x02\x06\x07\x00\x06\x07\x00\x02\x06\x08\x00\x06\x08\x00\x02\x06\x09\x00\x06\x09\x00\x02\x06\x0A\x00\x06\x0A\x00\x02\x06\x0B\x00\x06\x0B\x00\x02\x06\x0C\x00\x06\x0C\x00\x02\x00\x04\x1F\x00\x04\x1F",
         plan,
     );
-    room::millions(plan);
+    lent_words::millions(plan);
 }
 
 fn main() {
