@@ -44,9 +44,8 @@ fn review_port(book: &[u8], words: &[u32], count: usize, plan: PlanContents, i: 
     requires { ListIn book.now words.now count × PlanIn plan × (i < plan.ports) }
     ensures { PortReviewed book.now plan i result }
 {
-    let number = plan.number;
     let suspects = port_suspects(plan, i);
-    review_list(book, words, count, number[i], suspects)
+    review_list(book, words, count, plan.number[i], suspects)
 }
 
 // A line for each port, in the order of the plan.
@@ -62,12 +61,11 @@ fn put_ports(
     ensures { PortsPut book.now plan buf.old at result buf.new }
 {
     let ports = plan.ports;
-    let number = plan.number;
     let mut to = at;
     let mut i: usize = 0;
     while i < ports {
         let phase = review_port(book, words, count, plan, i);
-        to = put_port(buf, to, number[i], phase);
+        to = put_port(buf, to, plan.number[i], phase);
         i += 1;
     }
     to

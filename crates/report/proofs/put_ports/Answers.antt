@@ -9,11 +9,11 @@ loop-i-init c = starts c.args.book.now c.args.plan c.args.buf.now c.args.at c.re
 pub review_port-phase-requires : goal.review_port-phase-requires
 review_port-phase-requires c = (c.requires.0, c.requires.1, c.loop-i-test.true)
 
-pub offset_bounds-number-i : goal.offset_bounds-number-i
-offset_bounds-number-i c = omega (arith, (plan_shape c.args.plan c.requires.1).few, c.loop-i-test.true)
+pub offset_bounds-plan-i : goal.offset_bounds-plan-i
+offset_bounds-plan-i c = omega (arith, (plan_shape c.args.plan c.requires.1).few, c.loop-i-test.true)
 
-pub bounds-number-i : goal.bounds-number-i
-bounds-number-i c = omega (arith, (plan_shape c.args.plan c.requires.1).few, c.loop-i-test.true)
+pub bounds-plan-i : goal.bounds-plan-i
+bounds-plan-i c = omega (arith, (plan_shape c.args.plan c.requires.1).few, c.loop-i-test.true)
 
 pub put_port-to-requires : goal.put_port-to-requires
 put_port-to-requires c =

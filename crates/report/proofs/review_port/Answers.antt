@@ -7,11 +7,11 @@ use Rattle.report.proofs.review_port.Goals as goal
 pub port_suspects-suspects-requires : goal.port_suspects-suspects-requires
 port_suspects-suspects-requires c = (plan_shape c.args.plan c.requires.1, c.requires.2)
 
-pub offset_bounds-number-i : goal.offset_bounds-number-i
-offset_bounds-number-i c = omega (arith, (plan_shape c.args.plan c.requires.1).few, c.requires.2)
+pub offset_bounds-plan-i : goal.offset_bounds-plan-i
+offset_bounds-plan-i c = omega (arith, (plan_shape c.args.plan c.requires.1).few, c.requires.2)
 
-pub bounds-number-i : goal.bounds-number-i
-bounds-number-i c = omega (arith, (plan_shape c.args.plan c.requires.1).few, c.requires.2)
+pub bounds-plan-i : goal.bounds-plan-i
+bounds-plan-i c = omega (arith, (plan_shape c.args.plan c.requires.1).few, c.requires.2)
 
 pub review_list-requires : goal.review_list-requires
 review_list-requires c =
