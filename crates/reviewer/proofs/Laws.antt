@@ -2,8 +2,9 @@
 use Prim.Native.Nat.{ℕ, ◌≤◌, ◌<◌}
 use mathlib.Core.List.{List}
 use mathlib.Core.Path.{◌≡◌, ap, sym, ◌∙◌}
-use lib.Dec.{leb}
-use borrow.Author.Tests.{le-leb, lt-leb}
+use mathlib.Core.Bool.{true, false}
+use lib.Dec.{leb, eqb}
+use borrow.Author.Tests.{le-leb, lt-leb, eq-eqb, ne_eqb}
 use Rattle.model.specs.Limits.{greatest}
 use Rattle.model.specs.Answer.{Answer}
 use Rattle.model.specs.Calls.{readable}
@@ -13,7 +14,8 @@ use Rattle.checking.specs.Checks.{Checks}
 use Rattle.checking.specs.declared.Reading.TheVariants.{Fine, Refused}
 use Rattle.checking.specs.declared.Checked.{Checked}
 use Rattle.checking.proofs.Uses.{fine_of, refused_of, contents_of_lem}
-use Rattle.reviewer.specs.Words.{word, refusal_words, given_words, check_words}
+use Rattle.reviewer.specs.Words.{word, refusal_words, given_words, check_words, closure_of}
+use Rattle.walks.specs.Packets.{tactic}
 
 pub fits : (x : ℕ) → x ≤ greatest → x ≡ word x
 unfolding word
@@ -35,6 +37,13 @@ module _ (s : List ℕ) (r : Checked) (h : Checks s r) where
       let f = fine_of (readable s) (sym h.answer ∙ e) in
       let k = contents_of_lem s r h f.0 f.1 in
       rw f.1 (ap (λ c. given_words (word c.chains) (word c.rules) 0) k)
+
+-- which closure is meant
+pub lower_of : (n : ℕ) → n ≡ 0 → tactic false ≡ closure_of n
+lower_of n e = let k : eqb n 0 ≡ _ = eq-eqb n 0 e in rw k
+
+pub upper_of : (n : ℕ) → (n ≡ 0 → ⊥) → tactic true ≡ closure_of n
+upper_of n e = let k : eqb n 0 ≡ _ = ne_eqb n 0 e in rw k
 
 -- an entry that unfolds, asked for what was meant: its answer in words, and the lent words
 pub exported : {A : Type 0} (in_words : Answer A → List ℕ) (r : List ℕ) (t e f : Answer A) (book lent after : List ℕ) → r ≡ in_words t → t ≡ e → after ≡ words_after e book lent → e ≡ f →

@@ -6,7 +6,13 @@ use mathlib.Core.Logic.{◌≢◌}
 use Rattle.book.specs.Contents.{action_of}
 use Rattle.room.specs.declared.Need.{Need}
 use Rattle.room.specs.Counting.{one, nothing, put, held_after}
-use Rattle.room.specs.Capped.{least}
+use Rattle.room.specs.Capped.{least, Small}
+
+one_small : Small one
+one_small = record { rules = omega arith; words = omega arith }
+
+none_small : Small nothing
+none_small = record { rules = omega arith; words = omega arith }
 
 module _ (t : ℕ) where
   -- by cases: the seven actions, and what is none of them
@@ -40,6 +46,13 @@ module _ (t : ℕ) where
     pub put_least : (f : ℕ → Need) (a : ℕ) → (a ≡ 6 → g t ≡ least (f t)) → put g (action_of a t) ≡ least (put f (action_of a t))
     put_least f = by_number (λ a. (a ≡ 6 → g t ≡ least (f t)) → put g (action_of a t) ≡ least (put f (action_of a t)))
         (λ h. refl) (λ h. refl) (λ h. refl) (λ h. refl) (λ h. refl) (λ h. refl) (λ h. h refl) (λ n h. refl)
+
+    small_by : (a : ℕ) → (a ≡ 6 → Small (g t)) → Small (put g (action_of a t))
+    small_by = by_number (λ a. (a ≡ 6 → Small (g t)) → Small (put g (action_of a t)))
+        (λ h. one_small) (λ h. one_small) (λ h. one_small) (λ h. none_small) (λ h. none_small) (λ h. none_small) (λ h. h refl) (λ n h. one_small)
+
+    pub put_small : (a : ℕ) (own : Need) → own ≡ put g (action_of a t) → (a ≡ 6 → Small (g t)) → Small own
+    put_small a own e h = rw e (small_by a h)
 
   module _ (held : ℕ) where
     pub held_return : (a : ℕ) → a ≡ 5 → held + 1 ≡ held_after held (action_of a t)

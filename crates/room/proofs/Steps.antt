@@ -2,10 +2,12 @@
 use Prim.Native.Nat.{ℕ, suc, ◌+◌, ◌*◌, ◌-◌, ◌≤◌, ◌<◌}
 use native.Mathlib.Omega.{arith}
 use native.Mathlib.Numerals.{add-one}
+use native.Mathlib.Nat.{mul-le-mul}
 use mathlib.Core.Path.{◌≡◌, sym, ap, ap₂, ◌∙◌}
 use mathlib.Core.List.{List, [], ◌∷◌}
 use lib.ListN.{get_or}
 use Rattle.model.specs.Tree.{Action}
+use Rattle.model.specs.Limits.{rules_most}
 use Rattle.book.specs.Contents.{action_of}
 use Rattle.calls.specs.Actions.{actions_at}
 use Rattle.room.specs.declared.Need.{Need}
@@ -19,6 +21,14 @@ both p q = ap₂ (λ x y. record { rules = x; words = y }) p q
 
 abbrev pub more : Need → Need → Need
 more m n = record { rules = m.rules + n.rules; words = m.words + n.words }
+
+-- before the first rule
+pub none_counted : (n : Need) → least (more (record { rules = 0; words = 0 }) n) ≡ least n
+none_counted n = both (omega arith) (omega arith)
+
+-- the words of a chain's own conditions do not overflow
+pub product_fits : (held i : ℕ) (own : Need) → held ≤ suc i → i < rules_most → Small own → held * own.rules ≤ rules_most * need_most
+product_fits held i own h lt s = let le : held ≤ rules_most = omega arith in mul-le-mul le s.rules
 
 module _ (action target : List ℕ) where
   acts_step : (i end : ℕ) → i < end → actions_at action target i (end - i) ≡ action_of (get_or action i 0) (get_or target i 0) ∷ actions_at action target (i + 1) (end - (i + 1))
