@@ -1,58 +1,52 @@
 -- An action and the chain that it calls: one law for each way through the code.
-use Prim.Native.Nat.{ℕ, zero, suc, ◌-◌, ◌≤◌, ◌<◌}
+use Prim.Native.Nat.{ℕ, suc, ◌-◌, ◌<◌}
+use mathlib.Core.Bool.{true, false, ◌&&◌}
 use mathlib.Core.List.{List}
 use mathlib.Core.Path.{◌≡◌}
 use native.Mathlib.Omega.{arith}
-use borrow.Author.Tests.{lt-ltb, le-ltb}
-use Rattle.model.specs.Number.{numeral, illegible, number, number_at}
+use lib.Dec.{ltb}
+use Rattle.model.specs.Answer as answer
+use Rattle.model.specs.Answer.{Answer, fine}
+use Rattle.model.specs.Reader.{refused, got, refuse, choose}
+use Rattle.model.specs.Number.{number, number_at}
 use Rattle.model.specs.Book.{action_in}
+use Rattle.model.proofs.Branches.{actions}
+use Rattle.numbers.specs.Told.{numbered}
+use Rattle.numbers.specs.declared.Number.{Number}
 use Rattle.expressions.specs.Told.{stand}
-use Rattle.book.specs.Inner.{chain_number, action_told, call_in}
-use Rattle.book.specs.declared.ActionRead.{ActionRead}
-use Rattle.book.specs.declared.ActionRead.TheVariants.{Got, Refused}
+use Rattle.book.specs.Contents.{chain_number}
+use Rattle.book.specs.Inner.{answered, action_read, call_in}
+use Rattle.book.specs.declared.Action.TheVariants.{Call}
+use Rattle.book.specs.declared.rules.ActionRead.{ActionRead}
+use Rattle.book.proofs.Afterwards.{number_read}
 
 module _ (chains : ℕ) (s : List ℕ) (at : ℕ) where
-  abbrev IsCall : ActionRead → Type 0
-  IsCall r = (rules sources : ℕ) → r ≡ action_told (call_in chains s (stand at rules sources))
+  abbrev IsCall : Answer ActionRead → Type 0
+  IsCall r = (rules sources : ℕ) → r ≡ answered action_read (call_in chains s (stand at rules sources))
 
-  abbrev IsAction : ActionRead → Type 0
-  IsAction r = (rules sources : ℕ) → r ≡ action_told (action_in chains s (stand at rules sources))
+  abbrev IsAction : Answer ActionRead → Type 0
+  IsAction r = (rules sources : ℕ) → r ≡ answered action_read (action_in chains s (stand at rules sources))
 
-  pub call_refused : (n : ℕ) → number_at s at ≡ illegible n → IsCall (Refused n at)
-  unfolding number
-  call_refused n e rules sources = rw e
+  module _ (n p : ℕ) (e : answer.refused n p ≡ numbered at (number_at s at)) where
+    pub call_refused : IsCall (answer.refused n p)
+    call_refused rules sources = let k : number s (stand at rules sources) ≡ refused n p = number_read s _ _ e in rw k
 
-  pub action_refused : (n : ℕ) → number_at s at ≡ illegible n → IsAction (Refused n at)
-  unfolding number
-  action_refused n e rules sources = rw e
+    pub action_refused : IsAction (answer.refused n p)
+    action_refused rules sources = let k : number s (stand at rules sources) ≡ refused n p = number_read s _ _ e in rw k
 
-  module _ (a next : ℕ) (e : number_at s at ≡ numeral a next) where
-    pub call_entry : a ≡ 0 → IsCall (Refused 5 at)
-    unfolding number
-    call_entry z rules sources = rw (e, z)
+  module _ (n : Number) (e : fine n ≡ numbered at (number_at s at)) where
+    pub call_none : (ltb 0 n.value && ltb n.value chains) ≡ false → IsCall (answer.refused 5 at)
+    call_none t rules sources = let k : number s (stand at rules sources) ≡ got n.value (stand n.next rules sources) = number_read s _ _ e in rw (k, t)
 
-    pub call_far : (a ≡ 0 → ⊥) → chains ≤ a → IsCall (Refused 5 at)
-    unfolding number
-    call_far z h rules sources = rw (e, lt-ltb 0 a (omega arith), le-ltb a chains h)
+    pub call_got : (ltb 0 n.value && ltb n.value chains) ≡ true → IsCall (fine (record { action = Call (chain_number n.value); next = n.next }))
+    call_got t rules sources = let k : number s (stand at rules sources) ≡ got n.value (stand n.next rules sources) = number_read s _ _ e in rw (k, t)
 
-    pub call_got : (a ≡ 0 → ⊥) → a < chains → IsCall (Got 6 (chain_number a) next)
-    unfolding number
-    call_got z h rules sources = rw (e, lt-ltb 0 a (omega arith), lt-ltb a chains h)
+    -- what the model chooses by the number
+    abbrev Chosen : ℕ → ℕ → ℕ → Answer ActionRead
+    Chosen v rules sources = answered action_read (choose v (actions chains) (refuse 4 at) s (stand n.next rules sources))
 
-    pub action_none : 6 < a → IsAction (Refused 4 at)
-    unfolding number
-    action_none h rules sources = let k : a ≡ suc (suc (suc (suc (suc (suc (suc (a - 7))))))) = omega arith in rw (e, k)
+    pub action_chosen : (v : ℕ) → n.value ≡ v → (rules sources : ℕ) → Chosen v rules sources ≡ answered action_read (action_in chains s (stand at rules sources))
+    action_chosen v q rules sources = let k : number s (stand at rules sources) ≡ got n.value (stand n.next rules sources) = number_read s _ _ e in rw (k, q)
 
-  pub action_plain : (a next : ℕ) → number_at s at ≡ numeral a next → a < 6 → IsAction (Got a (chain_number 0) next)
-  unfolding number
-  action_plain zero next e h rules sources = rw e
-  action_plain (suc zero) next e h rules sources = rw e
-  action_plain (suc (suc zero)) next e h rules sources = rw e
-  action_plain (suc (suc (suc zero))) next e h rules sources = rw e
-  action_plain (suc (suc (suc (suc zero)))) next e h rules sources = rw e
-  action_plain (suc (suc (suc (suc (suc zero))))) next e h rules sources = rw e
-  action_plain (suc (suc (suc (suc (suc (suc a)))))) next e h rules sources = absurd (omega arith)
-
-pub action_call : (chains : ℕ) (s : List ℕ) (at a next : ℕ) → number_at s at ≡ numeral a next → 6 ≤ a → a ≤ 6 → (r : ActionRead) → IsCall chains s next r → IsAction chains s at r
-unfolding number
-action_call chains s at a next e l m r h rules sources = let k : a ≡ 6 = omega arith in rw (e, k) (h rules sources)
+    pub action_none : 6 < n.value → IsAction (answer.refused 4 at)
+    action_none h = action_chosen (suc (suc (suc (suc (suc (suc (suc (n.value - 7)))))))) (omega arith)

@@ -1,7 +1,6 @@
 -- What the proofs of this crate, and of the crates above it, cite.
 pub mod Charts
 mod ActionSteps
-mod Notes
 mod Afterwards
 mod RuleSteps
 mod ChainSteps

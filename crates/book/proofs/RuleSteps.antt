@@ -1,174 +1,153 @@
 -- A rule, and the loop over the rules of a chain: one law for each way through the code.
 use Prim.Native.Nat.{ℕ, ◌+◌, ◌-◌, ◌≤◌, ◌<◌}
-use mathlib.Core.List.{List, [], ◌∷◌, ◌++◌, append_assoc, append-nil}
+use mathlib.Core.List.{List, [], ◌∷◌, ◌++◌, map, map-append}
 use mathlib.Core.Path.{◌≡◌, refl, sym, ap, ◌∙◌, subst}
 use native.Mathlib.Omega.{arith}
-use lib.ListN.{length, length-append}
-use Rattle.model.specs.Limits.{book_bytes, chains_most, levels_most}
+use native.Mathlib.Nat.{add-zero, sub-zero}
+use lib.ListN.{length, set, take}
+use lib.Seq.{take-length}
+use Rattle.std.proofs.lemmas.List.{take_more_set}
+use Rattle.model.specs.Answer as answer
+use Rattle.model.specs.Answer.{Answer, fine}
+use Rattle.model.specs.Limits.{levels_most}
 use Rattle.model.specs.Reader.{Stand, Read, got, refused, each}
-use Rattle.model.specs.Tree.{Rule, Action}
-use Rattle.model.specs.Tree.Action.{accept, drop, reject, log, empty, return, call}
+use Rattle.model.specs.Tree as tree
+use Rattle.model.specs.Tree.{Rule, place_of}
 use Rattle.model.specs.Book.{expression, action_in, rule}
 use Rattle.model.proofs.BookRead.{ActionFine, action_got}
 use Rattle.model.proofs.Standing.{read_stands}
+use Rattle.model.proofs.BookKnown.{OneRule, rule_known}
 use Rattle.model.proofs.Success as success
-use Rattle.model.proofs.BookKnown.{KnownRule, OneRule, rule_known}
 use Rattle.model.proofs.Success.{Moved}
-use Rattle.expressions.specs.Told.{told, stand}
+use Rattle.expressions.specs.Told.{noted, stand}
 use Rattle.expressions.specs.declared.ExpressionRead.{ExpressionRead}
-use Rattle.expressions.specs.declared.ExpressionRead.TheVariants as expressionRead
-use Rattle.expressions.proofs.Ends.{found, told_refusal}
-use Rattle.book.specs.Contents.{action_number, target_number}
-use Rattle.book.specs.Inner.{Finds, chain_number, action_told, seen_of, rule_told}
-use Rattle.book.specs.Held.{Small, Seen}
-use Rattle.book.specs.declared.ChainNumber.{ChainNumber}
-use Rattle.book.specs.declared.RuleSeen.{RuleSeen}
-use Rattle.book.specs.declared.ActionRead.TheVariants as actionRead
-use Rattle.book.specs.declared.RuleRead.{RuleRead}
-use Rattle.book.specs.declared.RuleRead.TheVariants as ruleRead
-use Rattle.book.proofs.Afterwards.{after_got, after_refused, behind, behind_none, each_none, each_refused, each_more}
+use Rattle.expressions.proofs.Ends.{found, noted_refusal}
+use Rattle.book.specs.Contents.{held, note_of}
+use Rattle.book.specs.Inner.{Finds, answered, action_read, rule_read}
+use Rattle.book.specs.declared.NotedRule.{NotedRule}
+use Rattle.book.specs.declared.rules.ActionRead.{ActionRead}
+use Rattle.book.specs.declared.rules.RuleRead.{RuleRead}
+use Rattle.book.proofs.Afterwards.{after_got, after_refused, answered_refusal, behind, behind_none, each_none, each_refused, each_more}
 
--- what an answer says of the model's reading
-action_refusal : (m : Read Action) (n p : ℕ) → actionRead.Refused n p ≡ action_told m → m ≡ refused n p
-action_refusal (got a st) n p e = let z : ◌≡◌ {A = ℕ} 0 1 = cc in absurd (omega arith)
-action_refusal (refused x y) n p e = cc
+-- an action that was read, as the code sees it
+record FoundAction (chains : ℕ) (s : List ℕ) (st : Stand) (a : ActionRead) : Type 0 where
+  pub act : tree.Action
+  pub reads : action_in chains s st ≡ got act (stand a.next st.rules st.sources)
+  pub is : held act ≡ a.action
+  pub on : st.at < a.next
+  pub inside : a.next ≤ length s
 
-record FoundAction (chains : ℕ) (s : List ℕ) (st : Stand) (a : ℕ) (c : ChainNumber) (next : ℕ) : Type 0 where
-  pub act : Action
-  pub reads : action_in chains s st ≡ got act (stand next st.rules st.sources)
-  pub number : action_number act ≡ a
-  pub target : chain_number (target_number act) ≡ c
-
-found_action : (chains : ℕ) (s : List ℕ) (st : Stand) (a : ℕ) (c : ChainNumber) (next : ℕ) → actionRead.Got a c next ≡ action_told (action_in chains s st) → FoundAction chains s st a c next
-found_action chains s st a c next = go (action_in chains s st) refl (action_got chains s st)
+found_action : (chains : ℕ) (s : List ℕ) (st : Stand) (a : ActionRead) → fine a ≡ answered action_read (action_in chains s st) → FoundAction chains s st a
+found_action chains s st a = go (action_in chains s st) refl (action_got chains s st)
   where
-    go : (m : Read Action) → action_in chains s st ≡ m → success.Got m (λ a st'. ActionFine chains a × Moved s st st') → actionRead.Got a c next ≡ action_told m → FoundAction chains s st a c next
+    go : (m : Read tree.Action) → action_in chains s st ≡ m → success.Got m (λ a st'. ActionFine chains a × Moved s st st')
+        → fine a ≡ answered action_read m → FoundAction chains s st a
     go (got x st') q p t =
-        let e : st'.at ≡ next = cc in let f : st'.rules ≡ st.rules = p.1.onward.rules in let g : st'.sources ≡ st.sources = p.1.sources in
-        let d : stand st'.at st'.rules st'.sources ≡ stand next st.rules st.sources = cc in
-        record { act = x; reads = q ∙ ap (got x) d; number = cc; target = cc }
+        let z : a ≡ action_read x st' = cc in
+        let e : st'.at ≡ a.next = ap (λ (a : ActionRead). a.next) (sym z) in
+        let f : st'.rules ≡ st.rules = p.1.onward.rules in let g : st'.sources ≡ st.sources = p.1.sources in
+        let d : stand st'.at st'.rules st'.sources ≡ stand a.next st.rules st.sources = cc in
+        record {
+          act = x;
+          reads = q ∙ ap (got x) d;
+          is = ap (λ (a : ActionRead). a.action) (sym z);
+          on = omega (arith, p.1.onward.on);
+          inside = omega (arith, p.1.onward.inside);
+        }
     go (refused n p) q h t = let z : ◌≡◌ {A = ℕ} 0 1 = cc in absurd (omega arith)
 
 module _ (chains : ℕ) (s : List ℕ) (at sources : ℕ) where
-  abbrev pub IsRule : RuleRead → Type 0
-  IsRule r = (i rules : ℕ) → r ≡ rule_told (rule chains i s (stand at rules sources))
+  abbrev pub IsRule : Answer RuleRead → Type 0
+  IsRule r = (i rules : ℕ) → r ≡ answered rule_read (rule chains i s (stand at rules sources))
 
-  pub action_bad : (n p : ℕ) → ((rules sources : ℕ) → actionRead.Refused n p ≡ action_told (action_in chains s (stand at rules sources))) → IsRule (ruleRead.Refused n p)
-  action_bad n p h i rules = sym (ap rule_told (after_refused (action_in chains s (stand at rules sources)) _ n p (action_refusal _ n p (h rules sources))))
+  pub action_bad : (n p : ℕ) → ((rules sources : ℕ) → answer.refused n p ≡ answered action_read (action_in chains s (stand at rules sources)))
+      → IsRule (answer.refused n p)
+  action_bad n p h i rules =
+      sym (ap (answered rule_read) (after_refused (action_in chains s (stand at rules sources)) _ n p (answered_refusal action_read _ n p (h rules sources))))
 
-  module _ (a : ℕ) (c : ChainNumber) (middle : ℕ) (h : (rules sources : ℕ) → actionRead.Got a c middle ≡ action_told (action_in chains s (stand at rules sources))) where
-    pub match_bad : (n p : ℕ) → ((rules : ℕ) → expressionRead.Refused n p ≡ told (expression levels_most s (stand middle rules sources))) → IsRule (ruleRead.Refused n p)
+  module _ (a : ActionRead) (h : (rules sources : ℕ) → fine a ≡ answered action_read (action_in chains s (stand at rules sources))) where
+    action_here : (rules : ℕ) → FoundAction chains s (stand at rules sources) a
+    action_here rules = found_action chains s (stand at rules sources) a (h rules sources)
+
+    pub match_bad : (n p : ℕ) → ((rules : ℕ) → answer.refused n p ≡ noted (expression levels_most s (stand a.next rules sources))) → IsRule (answer.refused n p)
     match_bad n p k i rules =
-        let f = found_action chains s (stand at rules sources) a c middle (h rules sources) in
-        sym (ap rule_told (after_got (action_in chains s (stand at rules sources)) _ f.act _ f.reads
-        ∙ after_refused (expression levels_most s (stand middle rules sources)) _ n p (told_refusal _ n p (sym (k rules)))))
+        let f = action_here rules in
+        sym (ap (answered rule_read) (after_got (action_in chains s (stand at rules sources)) _ f.act _ f.reads
+        ∙ after_refused (expression levels_most s (stand a.next rules sources)) _ n p (noted_refusal _ n p (sym (k rules)))))
 
-    pub rule_got : (next counted : ℕ) → ((rules : ℕ) → expressionRead.Got next counted ≡ told (expression levels_most s (stand middle rules sources)))
-        → IsRule (ruleRead.Got (record { action = a; called = c; expression = middle; next = next; sources = counted }))
-    rule_got next counted k i rules =
-        let f = found_action chains s (stand at rules sources) a c middle (h rules sources) in
-        let g = found levels_most s (stand middle rules sources) next counted (sym (k rules)) in
-        let p = (read_stands levels_most s (stand middle rules sources) (stand next rules counted) g.expr g.reads).0 in
-        sym (ap rule_told (after_got (action_in chains s (stand at rules sources)) _ f.act _ f.reads
-        ∙ after_got (expression levels_most s (stand middle rules sources)) _ g.expr _ g.reads) ∙ same f.number f.target p)
-      where
-        same : {x y z w : ℕ} {c d : ChainNumber} → x ≡ y → c ≡ d → z ≡ w → ruleRead.Got (record { action = x; called = c; expression = z; next = next; sources = counted }) ≡ ruleRead.Got (record { action = y; called = d; expression = w; next = next; sources = counted })
-        same e f g = rw (e, f, g)
+    module _ (e : ExpressionRead) (k : (rules : ℕ) → fine e ≡ noted (expression levels_most s (stand a.next rules sources))) where
+      abbrev seen : RuleRead
+      seen = record { noted = record { place = at; action = a.action; expression = a.next; end = e.next }; end = e }
+
+      pub rule_got : IsRule (fine seen)
+      rule_got i rules =
+          let f = action_here rules in
+          let g = found levels_most s (stand a.next rules sources) e (sym (k rules)) in
+          let p = (read_stands levels_most s (stand a.next rules sources) (stand e.next rules e.sources) g.expr g.reads).0 in
+          sym (ap (answered rule_read) (after_got (action_in chains s (stand at rules sources)) _ f.act _ f.reads
+          ∙ after_got (expression levels_most s (stand a.next rules sources)) _ g.expr _ g.reads) ∙ rw (f.is, p))
+
+      -- each of its places is one of the book's
+      pub rule_inside : (at < a.next) × (a.next < e.next) × (e.next ≤ length s)
+      rule_inside =
+          let g = found levels_most s (stand a.next 0 sources) e (sym (k 0)) in
+          ((action_here 0).on, g.on, g.inside)
 
 -- a rule that was read, as the code sees it
-record FoundRule (chains i : ℕ) (s : List ℕ) (st : Stand) (seen : RuleSeen) : Type 0 where
+record FoundRule (chains i : ℕ) (s : List ℕ) (st : Stand) (seen : RuleRead) : Type 0 where
   pub r : Rule
-  pub reads : rule chains i s st ≡ got r (stand seen.next st.rules seen.sources)
-  pub is : Seen st.at seen r
-  pub known : KnownRule s chains r
-  pub past : st.at < seen.next
+  pub reads : rule chains i s st ≡ got r (stand seen.end.next st.rules seen.end.sources)
+  pub is : note_of r ≡ seen.noted
 
-found_rule : (chains i : ℕ) (s : List ℕ) (st : Stand) (seen : RuleSeen) → ruleRead.Got seen ≡ rule_told (rule chains i s st) → FoundRule chains i s st seen
+found_rule : (chains i : ℕ) (s : List ℕ) (st : Stand) (seen : RuleRead) → fine seen ≡ answered rule_read (rule chains i s st) → FoundRule chains i s st seen
 found_rule chains i s st seen = go (rule chains i s st) refl (rule_known s chains i st)
   where
-    go : (m : Read Rule) → rule chains i s st ≡ m → success.Got m (OneRule s chains i st) → ruleRead.Got seen ≡ rule_told m → FoundRule chains i s st seen
+    go : (m : Read Rule) → rule chains i s st ≡ m → success.Got m (OneRule s chains i st) → fine seen ≡ answered rule_read m → FoundRule chains i s st seen
     go (got r st') q p t =
-        let z : seen ≡ seen_of r st' = cc in
-        let e : st'.at ≡ seen.next = sym p.next ∙ sym (ap (λ (x : RuleSeen). x.next) z) in
+        let z : rule_read r st' ≡ seen = cc in
+        let e : st'.at ≡ seen.end.next = ap (λ (x : RuleRead). x.end.next) z in
         let f : st'.rules ≡ st.rules = p.onward.rules in
-        let g : st'.sources ≡ seen.sources = sym (ap (λ (x : RuleSeen). x.sources) z) in
-        let d : stand st'.at st'.rules st'.sources ≡ stand seen.next st.rules seen.sources = cc in
-        record {
-          r = r;
-          reads = q ∙ ap (got r) d;
-          is = record {
-            place = p.place;
-            action = sym (ap (λ (x : RuleSeen). x.action) z);
-            called = sym (ap (λ (x : RuleSeen). x.called.0) z);
-            expression = sym (ap (λ (x : RuleSeen). x.expression) z);
-            next = sym (ap (λ (x : RuleSeen). x.next) z);
-          };
-          known = p.known;
-          past = omega (arith, p.onward.on);
-        }
+        let g : st'.sources ≡ seen.end.sources = ap (λ (x : RuleRead). x.end.sources) z in
+        let d : stand st'.at st'.rules st'.sources ≡ stand seen.end.next st.rules seen.end.sources = cc in
+        record { r = r; reads = q ∙ ap (got r) d; is = ap (λ (x : RuleRead). x.noted) z }
     go (refused n p) q h t = let z : ◌≡◌ {A = ℕ} 0 1 = cc in absurd (omega arith)
 
-rule_refusal : (m : Read Rule) (n p : ℕ) → ruleRead.Refused n p ≡ rule_told m → m ≡ refused n p
-rule_refusal (got r st) n p e = let z : ◌≡◌ {A = ℕ} 0 1 = cc in absurd (omega arith)
-rule_refusal (refused x y) n p e = cc
+-- the loop: k of n slots are used, and with what is still to be read their rules are all
+module _ (chains : ℕ) (s : List ℕ) (at sources n : ℕ) (first rules : ℕ) where
+  abbrev pub rule_reads : Read (List Rule)
+  rule_reads = each n first (rule chains) s (stand at rules sources)
 
-target_small : (n : ℕ) (a : Action) → ActionFine n a → n ≤ chains_most → target_number a < 256
-target_small n accept h k = omega arith
-target_small n drop h k = omega arith
-target_small n reject h k = omega arith
-target_small n log h k = omega arith
-target_small n empty h k = omega arith
-target_small n return h k = omega arith
-target_small n (call c) h k = omega arith
-
-pub rule_small : (chains : ℕ) (s : List ℕ) (at sources : ℕ) (seen : RuleSeen) → IsRule chains s at sources (ruleRead.Got seen) → length s ≤ book_bytes → chains ≤ chains_most → Small at seen
-rule_small chains s at sources seen h short few =
-    let f = found_rule chains 0 s (stand at 0 sources) seen (h 0 0) in
-    let k = f.known in
-    record {
-      place = omega (arith, f.past, f.is.next, k.inside);
-      called = omega (arith, f.is.called, target_small chains f.r.action k.action few);
-      expression = omega (arith, f.is.expression, f.is.next, k.past, k.inside);
-      next = omega (arith, f.is.next, k.inside);
-    }
-
--- the loop: some rules were read, and with what is still to be read they are all. `Before` and `Now` say what the arrays held and hold
-module _ (chains : ℕ) (s : List ℕ) (at sources first last : ℕ) where
-  abbrev pub all_read_lem : Read (List Rule)
-  all_read_lem = each (last - first) first (rule chains) s (stand at last sources)
-
-  pub record Behind (Before Now : List Rule → Type 0) (next counted i : ℕ) : Type 0 where
+  pub record Behind (slots : List NotedRule) (read : ExpressionRead) (k : ℕ) : Type 0 where
     pub new : List Rule
-    pub count : first + length new ≡ i
-    pub reads : all_read_lem ≡ behind new (each (last - i) i (rule chains) s (stand next last counted))
-    pub held : (done : List Rule) → length done ≡ first → Before done → Now (done ++ new)
+    pub reads : rule_reads ≡ behind new (each (n - k) (first + k) (rule chains) s (stand read.next rules read.sources))
+    pub held : take k slots ≡ map note_of new
 
-  pub rules_begin : (Before : List Rule → Type 0) → Behind Before Before at sources first
-  rules_begin Before = record { new = []; count = omega arith; reads = behind_none all_read_lem; held = λ done n h. subst Before (sym (append-nil done)) h }
+  pub rules_begin : (slots : List NotedRule) → Behind slots (record { next = at; sources = sources }) 0
+  rules_begin slots = record { new = []; reads = rw (sub-zero, add-zero) (behind_none rule_reads); held = refl }
 
-  module _ (Before Now : List Rule → Type 0) (next counted i : ℕ) (b : Behind Before Now next counted i) where
-    pub rules_next : i < last → (seen : RuleSeen) → IsRule chains s next counted (ruleRead.Got seen)
-        → (Then : List Rule → Type 0) → ((done : List Rule) → length done ≡ i → Now done → (new : Rule) → Seen next seen new → Then (done ++ new ∷ []))
-        → Behind Before Then seen.next seen.sources (i + 1)
-    rules_next lt seen h Then note =
-        let f = found_rule chains i s (stand next last counted) seen (h i last) in
+  module _ (slots : List NotedRule) (read : ExpressionRead) (k : ℕ) (b : Behind slots read k) where
+    pub rules_next : k < n → k < length slots → (r : RuleRead) → IsRule chains s read.next read.sources (fine r) → Behind (set slots k r.noted) r.end (k + 1)
+    rules_next lt inside r h =
+        let f = found_rule chains (first + k) s (stand read.next rules read.sources) r (h (first + k) rules) in
+        let i : first + k + 1 ≡ first + (k + 1) = omega arith in
         record {
           new = b.new ++ f.r ∷ [];
-          count = omega (arith, length-append b.new (f.r ∷ []), b.count);
-          reads = b.reads ∙ each_more (rule chains) s last i (stand next last counted) lt f.r _ f.reads b.new;
-          held = λ done n k. subst Then (append_assoc done b.new (f.r ∷ [])) (note (done ++ b.new) (omega (arith, length-append done b.new, b.count)) (b.held done n k) f.r f.is);
+          reads = b.reads ∙ each_more (rule chains) s n k (first + k) (stand read.next rules read.sources) lt f.r _ f.reads b.new
+              ∙ ap (λ i. behind (b.new ++ f.r ∷ []) (each (n - (k + 1)) i (rule chains) s (stand r.end.next rules r.end.sources))) i;
+          held = take_more_set slots k r.noted inside ∙ ap (λ l. l ++ r.noted ∷ []) b.held
+              ∙ ap (λ v. map note_of b.new ++ v ∷ []) (sym f.is) ∙ sym (map-append note_of b.new (f.r ∷ []));
         }
 
-    -- the answer r is right, and so is what the arrays hold
-    abbrev Answered : ExpressionRead → Type 0
-    Answered r = (r ≡ told all_read_lem) × ((done : List Rule) → length done ≡ first → Before done → Finds all_read_lem (λ new. Now (done ++ new)))
+    abbrev Answered : Answer ExpressionRead → List NotedRule → Type 0
+    Answered a slots = (a ≡ noted rule_reads) × Finds rule_reads (λ rs st. slots ≡ map note_of rs)
 
-    pub rules_refused : i < last → (n p : ℕ) → IsRule chains s next counted (ruleRead.Refused n p) → Answered (expressionRead.Refused n p)
-    rules_refused lt n p h =
-        let e = b.reads ∙ each_refused (rule chains) s last i (stand next last counted) lt n p (rule_refusal _ n p (h i last)) b.new in
-        (sym (ap told e), λ done k z. subst (λ m. Finds m (λ new. Now (done ++ new))) (sym e) tt)
+    pub rules_refused : k < n → (x p : ℕ) → IsRule chains s read.next read.sources (answer.refused x p) → (slots : List NotedRule) → Answered (answer.refused x p) slots
+    rules_refused lt x p h slots =
+        let refusal = answered_refusal rule_read _ x p (h (first + k) rules) in
+        let e = b.reads ∙ each_refused (rule chains) s n k (first + k) (stand read.next rules read.sources) lt x p refusal b.new in
+        (sym (ap noted e), subst (λ m. Finds m (λ rs st. slots ≡ map note_of rs)) (sym e) tt)
 
-    pub rules_end : last ≤ i → Answered (expressionRead.Got next counted)
-    rules_end le =
-        let e = b.reads ∙ each_none (rule chains) s last i (stand next last counted) (omega arith) b.new in
-        (sym (ap told e), λ done k z. subst (λ m. Finds m (λ new. Now (done ++ new))) (sym e) (b.held done k z))
+    pub rules_end : n ≤ k → length slots ≡ k → Answered (fine read) slots
+    rules_end le l =
+        let e = b.reads ∙ each_none (rule chains) s n k (first + k) (stand read.next rules read.sources) le b.new in
+        (sym (ap noted e), subst (λ m. Finds m (λ rs st. slots ≡ map note_of rs)) (sym e) (sym (take-length slots) ∙ ap (λ k. take k slots) l ∙ b.held))

@@ -1,64 +1,44 @@
 -- What the code's inner answers say of the model's readers.
 use Rattle.std.specs.Prelude.{ℕ, zero, List}
+use Rattle.model.specs.Answer as answer
+use Rattle.model.specs.Answer.{Answer, fine}
 use Rattle.model.specs.Reader.{Stand, Read, got, refused, Reader, ◌>>=◌, give, each}
-use Rattle.model.specs.Tree.{Rule, Book, Action, place_of}
+use Rattle.model.specs.Tree as tree
+use Rattle.model.specs.Tree.{Rule}
 use Rattle.model.specs.Tree.Action.{call}
-use Rattle.model.specs.Book.{within, called_chain, chain, rules_so_far, end}
-use Rattle.book.specs.Contents.{action_number, target_number}
-use Rattle.book.specs.declared.ChainsRead.{ChainsRead}
-use Rattle.book.specs.declared.ChainsRead.TheVariants as chainsRead
-use Rattle.book.specs.declared.ChainNumber.{ChainNumber}
-use Rattle.book.specs.declared.RuleSeen.{RuleSeen}
-use Rattle.book.specs.declared.RuleRead.{RuleRead}
-use Rattle.book.specs.declared.RuleRead.TheVariants as ruleRead
-use Rattle.book.specs.declared.ActionRead.{ActionRead}
-use Rattle.book.specs.declared.ActionRead.TheVariants as actionRead
+use Rattle.model.specs.Book.{called_chain, chain}
+use Rattle.book.specs.Contents.{held, note_of}
+use Rattle.book.specs.declared.rules.ActionRead.{ActionRead}
+use Rattle.book.specs.declared.rules.RuleRead.{RuleRead}
+
+-- what the code hands back of a reading
+abbrev pub answered : {A B : Type 0} → (A → Stand → B) → Read A → Answer B
+answered said (got a st) = fine (said a st)
+answered said (refused n p) = answer.refused n p
 
 -- what a reading got, if it got something, is so
-abbrev pub Finds : {A : Type 0} → Read A → (A → Type 0) → Type 0
-Finds (got a st) P = P a
+abbrev pub Finds : {A : Type 0} → Read A → (A → Stand → Type 0) → Type 0
+Finds (got a st) P = P a st
 Finds (refused n p) P = Unit {0}
 
-abbrev pub chain_number : ℕ → ChainNumber
-chain_number c = record { 0 = c }
-
 -- what stands behind action 6
-abbrev pub call_in : ℕ → Reader Action
+abbrev pub call_in : ℕ → Reader tree.Action
 call_in chains = do
   c ← called_chain chains
   give (call c)
 
-abbrev pub action_told : Read Action → ActionRead
-action_told (got a st) = actionRead.Got (action_number a) (chain_number (target_number a)) st.at
-action_told (refused n p) = actionRead.Refused n p
+-- the chains of a book that has so many
+abbrev pub all_chains : ℕ → Reader (List (List Rule))
+all_chains chains = each chains zero (λ i. chain chains)
 
--- a rule as its reading leaves it
-abbrev pub seen_of : Rule → Stand → RuleSeen
-seen_of r st = record {
-  action = action_number r.action;
-  called = chain_number (target_number r.action);
-  expression = place_of r.match;
-  next = r.next;
-  sources = st.sources;
-}
+-- an action and the place after it
+abbrev pub action_read : tree.Action → Stand → ActionRead
+action_read a st = record { action = held a; next = st.at }
 
-abbrev pub rule_told : Read Rule → RuleRead
-rule_told (got r st) = ruleRead.Got (seen_of r st)
-rule_told (refused n p) = ruleRead.Refused n p
+-- a rule as its reading leaves it: what is noted of it, and where it ends
+abbrev pub rule_read : Rule → Stand → RuleRead
+rule_read r st = record { noted = note_of r; end = record { next = st.at; sources = st.sources } }
 
-abbrev pub chains_told : Read (List (List Rule)) → ChainsRead
-chains_told (got cs st) = chainsRead.Got st.at st.rules
-chains_told (refused n p) = chainsRead.Refused n p
-
--- the book from its chains on, and from its policy on
-abbrev pub behind_policy : ℕ → ℕ → Reader Book
-behind_policy n policy = do
-  chains ← each n zero (λ i. chain n)
-  total ← rules_so_far
-  _ ← end
-  give (record { policy = policy; total = total; chains = chains })
-
-abbrev pub behind_chains : ℕ → Reader Book
-behind_chains n = do
-  policy ← within 0 1
-  behind_policy n policy
+-- the place after
+abbrev pub place_after : {A : Type 0} → A → Stand → ℕ
+place_after a st = st.at

@@ -9,10 +9,8 @@ pub fn byte(b: &mut [u8], at: usize, v: u8) -> usize {
 
 pub fn bytes(b: &mut [u8], at: usize, text: &[u8]) -> usize {
     let mut next = at;
-    let mut i = 0;
-    while i < text.len() {
-        next = byte(b, next, text[i]);
-        i = i + 1;
+    for &v in text {
+        next = byte(b, next, v);
     }
     next
 }
@@ -20,10 +18,8 @@ pub fn bytes(b: &mut [u8], at: usize, text: &[u8]) -> usize {
 // The same bytes n times.
 pub fn repeat(b: &mut [u8], at: usize, text: &[u8], n: usize) -> usize {
     let mut next = at;
-    let mut left = n;
-    while 0 < left {
+    for _ in 0..n {
         next = bytes(b, next, text);
-        left = left - 1;
     }
     next
 }
@@ -31,12 +27,10 @@ pub fn repeat(b: &mut [u8], at: usize, text: &[u8], n: usize) -> usize {
 // A call of a chain for every packet, n times.
 pub fn calls(b: &mut [u8], at: usize, called: u8, n: usize) -> usize {
     let mut next = at;
-    let mut left = n;
-    while 0 < left {
+    for _ in 0..n {
         next = byte(b, next, 6);
         next = byte(b, next, called);
         next = byte(b, next, 0);
-        left = left - 1;
     }
     next
 }

@@ -1,4 +1,4 @@
--- What users above start from: the arrays of a book give its actions, and the ranks of a book that passes fall at every call.
+-- What users above start from: the contents of a book give its actions, and the ranks of a book that passes fall at every call.
 use Prim.Native.Nat.{ℕ, zero, suc, ◌≤◌, ◌<◌}
 use native.Mathlib.Omega.{arith}
 use mathlib.Core.Path.{◌≡◌, refl, ap₂}
@@ -14,7 +14,8 @@ use Rattle.model.specs.Limits.{weight_most}
 use Rattle.model.specs.Calls.{chain_of, LoopFree, lowest_loop, weight, loop_free, light_enough, checked}
 use Rattle.model.specs.Tree.{Rule, Book}
 use Rattle.model.proofs.LoopsExact.{lowest_none}
-use Rattle.book.specs.Contents.{Charted, NotedAll}
+use Rattle.book.specs.Contents.{first_of, Charted, NotedAll}
+use Rattle.book.specs.declared.Contents.{Contents}
 use Rattle.calls.specs.Sets.{rank_of}
 use Rattle.calls.specs.Actions.{Actions, actions_at}
 use Rattle.calls.specs.Reached.{Reached}
@@ -23,18 +24,18 @@ use Rattle.calls.specs.Checked.{Passes}
 use Rattle.calls.proofs.Graph.{ranked}
 use Rattle.calls.proofs.Levels.{same_ranks}
 
-noted_actions : (action target expression : List ℕ) (i n : ℕ) (rs : List Rule) → length rs ≡ n → NotedAll action target expression i rs → map (λ (r : Rule). r.action) rs ≡ actions_at action target i n
+noted_actions : (k : Contents) (i n : ℕ) (rs : List Rule) → length rs ≡ n → NotedAll k i rs → map (λ (r : Rule). r.action) rs ≡ actions_at k i n
 unfolding actions_at
-noted_actions action target expression i zero [] e h = refl
-noted_actions action target expression i (suc n) (r ∷ rs) e h = ap₂ ◌∷◌ h.0.act (noted_actions action target expression (suc i) n rs (omega arith) h.1)
-noted_actions action target expression i zero (r ∷ rs) e h = absurd (omega arith)
-noted_actions action target expression i (suc n) [] e h = absurd (omega arith)
+noted_actions k i zero [] e h = refl
+noted_actions k i (suc n) (r ∷ rs) e h = ap₂ ◌∷◌ h.0.act (noted_actions k (suc i) n rs (omega arith) h.1)
+noted_actions k i zero (r ∷ rs) e h = absurd (omega arith)
+noted_actions k i (suc n) [] e h = absurd (omega arith)
 
-pub charted_actions : {b : Book} {first action target expression : List ℕ} {chains rules : ℕ} → Charted b first action target expression chains rules → Actions b first action target chains rules
-charted_actions {b = b} {first = first} {action = action} {target = target} {expression = expression} k = record {
-  shape = k.shape;
-  count = k.count;
-  actions = λ c lt. noted_actions action target expression (get_or first c 0) _ (chain_of b c) (k.sizes c lt) (k.noted c lt);
+pub charted_actions : {b : Book} {k : Contents} → Charted b k → Actions b k
+charted_actions {b} {k} h = record {
+  shape = h.shape;
+  count = h.count;
+  actions = λ c lt. noted_actions k (first_of k c) _ (chain_of b c) (h.sizes c lt) (h.noted c lt);
 }
 
 -- what a book that passes has
@@ -51,13 +52,11 @@ module _ (b : Book) where
   passes st h = passes_by (lowest_loop (length b.chains) 0 b) refl h
 
 -- ITS RANKS FALL at every call, and are below the number of chains
-pub ranks_fall : {b : Book} {first action target expression : List ℕ} {chains rules : ℕ} → Charted b first action target expression chains rules
-    → (sets : List ℕ) → Reached b sets → (ranks : List ℕ) → ((c : ℕ) → c < chains → get_or ranks c 0 ≡ rank_of sets c)
-    → LoopFree b → Ranked first action target chains (rank_in ranks)
-ranks_fall k sets all ranks e free = same_ranks (rank_in ranks) k.shape e (ranked (charted_actions k) sets all free)
+pub ranks_fall : {b : Book} {k : Contents} → Charted b k → (sets : List ℕ) → Reached b sets
+    → (ranks : List ℕ) → ((c : ℕ) → c < k.chains → get_or ranks c 0 ≡ rank_of sets c)
+    → LoopFree b → Ranked k (rank_in ranks)
+ranks_fall h sets all ranks e free = same_ranks (rank_in ranks) h.shape e (ranked (charted_actions h) sets all free)
 
-pub passed_ranks : {b : Book} {first action target expression : List ℕ} {chains rules : ℕ} → Charted b first action target expression chains rules
-    → (st : Stand) → checked (got b st) ≡ fine b
-    → (sets : List ℕ) → Reached b sets → (ranks : List ℕ) → ((c : ℕ) → c < chains → get_or ranks c 0 ≡ rank_of sets c)
-    → Ranked first action target chains (rank_in ranks)
-passed_ranks {b = b} k st h sets all ranks e = ranks_fall k sets all ranks e (passes b st h).free
+pub passed_ranks : {b : Book} {k : Contents} → Charted b k → (st : Stand) → checked (got b st) ≡ fine b
+    → (sets : List ℕ) → Reached b sets → (ranks : List ℕ) → ((c : ℕ) → c < k.chains → get_or ranks c 0 ≡ rank_of sets c) → Ranked k (rank_in ranks)
+passed_ranks {b} h st p sets all ranks e = ranks_fall h sets all ranks e (passes b st p).free

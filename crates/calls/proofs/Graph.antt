@@ -1,5 +1,5 @@
 -- A closed table against the book: it is Reach; its lowest own chain is the lowest loop; without loops its sizes rank the chains.
-use Prim.Native.Nat.{ℕ, ◌+◌, ◌-◌, ◌^◌, ◌≤◌, ◌<◌}
+use Prim.Native.Nat.{ℕ, ◌-◌, ◌^◌, ◌≤◌, ◌<◌}
 use native.Mathlib.Omega.{arith}
 use native.Mathlib.Decide.{dec_lt}
 use mathlib.Core.Path.{◌≡◌, sym, ap, subst, ◌∙◌}
@@ -16,10 +16,11 @@ use Rattle.model.specs.Tree.{Book}
 use Rattle.model.proofs.DepthEnough.{weight_recursive}
 use Rattle.model.proofs.LoopsExact.{lowest_none, lowest_some}
 use Rattle.calls.specs.Sets.{has, in_row, Table, Holds, rank_of}
-use Rattle.book.specs.Contents.{rules_in}
+use Rattle.book.specs.Contents.{first_of, rules_in}
+use Rattle.book.specs.declared.Contents.{Contents}
 use Rattle.calls.specs.Actions.{Actions}
 use Rattle.calls.specs.Reached.{calls, reach, Reached}
-use Rattle.calls.specs.Weights.{Ranked, Weighing}
+use Rattle.calls.specs.Weights.{CallAt, Ranked, Weighing}
 use Rattle.calls.proofs.Bits.{has_nothing, lowest_below, lowest_in, lowest_first, ones_less, has_ones, same_bits}
 use Rattle.calls.proofs.Books.{weigh_book, calls_book, calls_beyond, calls_call, call_calls}
 use Rattle.calls.proofs.Warshall.{reach_same, reach_exactly}
@@ -38,37 +39,38 @@ pub reach_within : (b : Book) {c d : ℕ} → Reach b c d → c < length b.chain
 reach_within b {c} {d} (direct k) = caller_within b c d k
 reach_within b {c} (through {e = e} k r) = caller_within b c e k
 
-module _ {b : Book} {first action target : List ℕ} {chains rules : ℕ} (acts : Actions b first action target chains rules) where
+module _ {b : Book} {k : Contents} (acts : Actions b k) where
   pub few_enough : length b.chains ≤ chains_most
   few_enough = rw acts.count acts.shape.few
 
   -- so is the called chain
   called_within : (c d : ℕ) → CallIn d (chain_of b c) → d < length b.chains
-  called_within c d k =
+  called_within c d j =
       let n = acts.count in
-      let lt : c < chains = subst (λ m. c < m) n (caller_within b c d k) in
+      let lt : c < k.chains = subst (λ m. c < m) n (caller_within b c d j) in
       let up = acts.shape.rising c lt in
       let in' = acts.shape.inside c lt in
-      rw n (calls_within action target d (rules_in first c) (get_or first c 0) chains (calls_book acts c d lt ∙ call_calls b c d k) (λ j a l q. acts.shape.known j (omega arith) q))
+      rw n (calls_within k d (rules_in k c) (first_of k c) k.chains (calls_book acts c d lt ∙ call_calls b c d j) (λ i a l q. acts.shape.known i d (omega arith) q))
 
-  pub calls_table : (sets : List ℕ) → Below first action target chains sets → Table sets (calls b)
-  calls_table sets h c d lc ld = h c d lc ld ∙ elim (dec_lt c chains) [
-    | yes lt ↦ rw (lt-ltb c chains lt) (calls_book acts c d lt)
-    | no ge ↦ rw (le-ltb c chains (omega arith)) (sym (calls_beyond b c d (rw acts.count (omega arith))))
+  pub calls_table : (sets : List ℕ) → Below k k.chains sets → Table sets (calls b)
+  calls_table sets h c d lc ld = h c d lc ld ∙ elim (dec_lt c k.chains) [
+    | yes lt ↦ rw (lt-ltb c k.chains lt) (calls_book acts c d lt)
+    | no ge ↦ rw (le-ltb c k.chains (omega arith)) (sym (calls_beyond b c d (rw acts.count (omega arith))))
   ]
 
   -- THE CLOSED TABLE IS REACH
-  pub closed_reached : (sets after : List ℕ) → Table sets (calls b) → Holds after (reach (in_row sets) chains) → Reached b after
+  pub closed_reached : (sets after : List ℕ) → Table sets (calls b) → Holds after (reach (in_row sets) k.chains) → Reached b after
   closed_reached sets after t h = record {
     fit = h.fit;
     exactly = λ c d lc ld.
-        let e : in_row after c d ≡ reach (calls b) (length b.chains) c d = h.bits c d lc ld ∙ reach_same (in_row sets) (calls b) t chains c d acts.shape.few lc ld ∙ ap (λ n. reach (calls b) n c d) (sym acts.count) in
+        let e : in_row after c d ≡ reach (calls b) (length b.chains) c d = h.bits c d lc ld
+        ∙ reach_same (in_row sets) (calls b) t k.chains c d acts.shape.few lc ld ∙ ap (λ n. reach (calls b) n c d) (sym acts.count) in
         (λ q. (reach_exactly b called_within c d).0 (sym e ∙ q), λ r. e ∙ (reach_exactly b called_within c d).1 r);
   }
 
   -- a rule of c that calls
-  pub rule_call : (c i : ℕ) → c < chains → get_or first c 0 ≤ i → i < get_or first (c + 1) 0 → get_or action i 0 ≡ 6 → CallIn (get_or target i 0) (chain_of b c)
-  rule_call c i lt a l q = calls_call b c (get_or target i 0) (sym (calls_book acts c (get_or target i 0) lt) ∙ rule_calls action target (rules_in first c) (get_or first c 0) i a (omega arith) q)
+  pub rule_call : (c i d : ℕ) → c < k.chains → CallAt k c i d → CallIn d (chain_of b c)
+  rule_call c i d lt at = calls_call b c d (sym (calls_book acts c d lt) ∙ rule_calls k d (rules_in k c) (first_of k c) i at.from (omega (arith, at.to)) at.calls)
 
 module _ (b : Book) (few : length b.chains ≤ chains_most) (sets : List ℕ) (all : Reached b sets) (out : ℕ) (own : (d : ℕ) → d < chains_most → has out d ≡ in_row sets d d) where
   not_own : (d : ℕ) → d < chains_most → has out d ≡ false → ¬ Reach b d d
@@ -83,7 +85,7 @@ module _ (b : Book) (few : length b.chains ≤ chains_most) (sets : List ℕ) (a
       sym ((lowest_some b (count_trailing_zeros 64 out)).1 ((all.exactly _ _ l l).0 (sym (own (count_trailing_zeros 64 out) l) ∙ lowest_in out h pos), λ d lt. not_own d (omega arith) (lowest_first out d lt)))
 
 -- WITHOUT LOOPS, the number of chains that a chain reaches falls at each call, and is below the number of chains
-module _ {b : Book} {first action target : List ℕ} {chains rules : ℕ} (acts : Actions b first action target chains rules) (sets : List ℕ) (all : Reached b sets) (free : LoopFree b) where
+module _ {b : Book} {k : Contents} (acts : Actions b k) (sets : List ℕ) (all : Reached b sets) (free : LoopFree b) where
   in_range : (c : ℕ) → c < length b.chains → c < chains_most
   in_range c lt = omega (arith, acts.count, acts.shape.few)
 
@@ -113,15 +115,14 @@ module _ {b : Book} {first action target : List ℕ} {chains rules : ℕ} (acts 
       (λ i l q. has_ones n i (reached_within ((all.exactly c i lc l).0 q))) lc (not_itself c lc) (has_ones n c lt) in
       omega (arith, ones-ones n)
 
-  pub ranked : Ranked first action target chains (rank_of sets)
+  pub ranked : Ranked k (rank_of sets)
   ranked = record {
-    falls = λ c i lt a l q. rank_falls c (get_or target i 0) (rule_call acts c i lt a l q);
+    falls = λ c i d lt at. rank_falls c d (rule_call acts c i d lt at);
     below = λ c lt. subst (λ n. rank_of sets c < n) acts.count (rank_below c (rw acts.count lt));
   }
 
 -- the model's weight weighs by any ranks
-pub weighing : {b : Book} {first action target : List ℕ} {chains rules : ℕ} → Actions b first action target chains rules → LoopFree b → {rank : ℕ → ℕ} → Ranked first action target chains rank
-    → Weighing first action target chains rank (weight (length b.chains) b)
+pub weighing : {b : Book} {k : Contents} → Actions b k → LoopFree b → {rank : ℕ → ℕ} → Ranked k rank → Weighing k rank (weight (length b.chains) b)
 weighing {b} acts free by = record {
   ranked = by;
   recursive = λ c lt. weight_recursive b free c ∙ sym (weigh_book acts (weight (length b.chains) b) c lt);

@@ -9,7 +9,8 @@ use lib.ListN.{length, get_or, set, replicate, length-set, length-replicate, get
 use lib.Seq.{get_or-set_same, get_or-set_other}
 use lib.Dec.{eqb, ltb}
 use borrow.Author.Tests.{eqb-true, eqb-false, lt-ltb, le-ltb}
-use Rattle.book.specs.Contents.{Shape, rules_in}
+use Rattle.book.specs.Contents.{Shape, first_of, rules_in}
+use Rattle.book.specs.declared.Contents.{Contents}
 use Rattle.calls.specs.Actions.{weigh_at}
 use Rattle.calls.specs.Weights.{capped, AllCapped, Weighed, Ranked, Weighing, Upto}
 use Rattle.model.specs.Limits.{chains_most, weight_most}
@@ -29,22 +30,20 @@ module _ (weights : List ℕ) (all : AllCapped weights) (c v : ℕ) (lt : c < ch
     ];
   }
 
-module _ (first action target : List ℕ) (chains rules level : ℕ) (shape : Shape first action target chains rules) (rank w : ℕ → ℕ) (by : Weighing first action target chains rank w) where
+module _ (k : Contents) (level : ℕ) (shape : Shape k) (rank w : ℕ → ℕ) (by : Weighing k rank w) where
   -- the lower ranks have their weights, and of this rank the chains below c
   pub record Level (c : ℕ) (weights : List ℕ) : Type 0 where
-    pub lower : Upto chains rank w level weights
-    pub here : (x : ℕ) → x < chains → rank x ≡ level → x < c → get_or weights x 0 ≡ capped (w x)
+    pub lower : Upto k.chains rank w level weights
+    pub here : (x : ℕ) → x < k.chains → rank x ≡ level → x < c → get_or weights x 0 ≡ capped (w x)
 
-  pub level_first : (weights : List ℕ) → Upto chains rank w level weights → Level 0 weights
+  pub level_first : (weights : List ℕ) → Upto k.chains rank w level weights → Level 0 weights
   level_first weights h = record { lower = h; here = λ x lt e l. absurd (omega arith) }
 
-  module _ (weights : List ℕ) (c : ℕ) (lt : c < chains) (h : Level c weights) where
-    pub calls_weighed : rank c ≡ level → Weighed first action target w weights c
-    calls_weighed e i a l q =
-        let f = by.ranked.falls c i lt a l q in
-        h.lower (get_or target i 0) (shape.known i (omega (arith, shape.inside c lt)) q) (omega arith)
+  module _ (weights : List ℕ) (c : ℕ) (lt : c < k.chains) (h : Level c weights) where
+    pub calls_weighed : rank c ≡ level → Weighed k w weights c
+    calls_weighed e i d at = let f = by.ranked.falls c i d lt at in h.lower d (shape.known i d (omega (arith, at.to, shape.inside c lt)) at.calls) (omega arith)
 
-    pub level_weighed : AllCapped weights → rank c ≡ level → (v : ℕ) → v ≡ capped (weigh_at action target w (get_or first c 0) (rules_in first c)) → Level (c + 1) (set weights c v)
+    pub level_weighed : AllCapped weights → rank c ≡ level → (v : ℕ) → v ≡ capped (weigh_at k w (first_of k c) (rules_in k c)) → Level (c + 1) (set weights c v)
     level_weighed all e v q =
         let size : c < length weights = rw all.size (omega (arith, shape.few)) in
         record {
@@ -58,14 +57,13 @@ module _ (first action target : List ℕ) (chains rules level : ℕ) (shape : Sh
     pub level_skipped : rank c ≢ level → Level (c + 1) weights
     level_skipped n = record { lower = h.lower; here = λ x l r b. elim (ℕ_discrete x c) [ yes s ↦ absurd (n (ap rank (sym s) ∙ r)) | no ne ↦ h.here x l r (omega arith) ] }
 
-  pub level_done : (weights : List ℕ) (c : ℕ) → chains ≤ c → Level c weights → Upto chains rank w (level + 1) weights
+  pub level_done : (weights : List ℕ) (c : ℕ) → k.chains ≤ c → Level c weights → Upto k.chains rank w (level + 1) weights
   level_done weights c ge h x l r = elim (ℕ_discrete (rank x) level) [ yes e ↦ h.here x l e (omega arith) | no ne ↦ h.lower x l (omega arith) ]
 
 -- another writing of the ranks serves as well
-pub same_ranks : {first action target : List ℕ} {chains rules : ℕ} {rank : ℕ → ℕ} (r : ℕ → ℕ) → Shape first action target chains rules → ((c : ℕ) → c < chains → r c ≡ rank c)
-    → Ranked first action target chains rank → Ranked first action target chains r
+pub same_ranks : {k : Contents} {rank : ℕ → ℕ} (r : ℕ → ℕ) → Shape k → ((c : ℕ) → c < k.chains → r c ≡ rank c) → Ranked k rank → Ranked k r
 same_ranks r shape e by = record {
-  falls = λ c i lt a l q. omega (arith, e c lt, e _ (shape.known i (omega (arith, shape.inside c lt)) q), by.falls c i lt a l q);
+  falls = λ c i d lt at. omega (arith, e c lt, e d (shape.known i d (omega (arith, at.to, shape.inside c lt)) at.calls), by.falls c i d lt at);
   below = λ c lt. omega (arith, e c lt, by.below c lt);
 }
 

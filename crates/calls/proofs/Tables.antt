@@ -8,12 +8,13 @@ use mathlib.Core.Logic.{◌≢◌}
 use mathlib.Core.Bool.{Bool, true, false, ◌&&◌, ◌||◌}
 use mathlib.Core.List.{List}
 use lib.ListN.{get_or, set, replicate, length-set, length-replicate, get_or-replicate, get_or-eq_default}
+use lib.Bits.{bit_or, or_lt}
 use lib.Seq.{get_or-set_same, get_or-set_other}
 use lib.Dec.{eqb, ltb}
 use borrow.Author.Tests.{eq-eqb, ne_eqb, lt-ltb, le-ltb}
-use Rattle.calls.specs.Sets.{has, in_row, Relation, Fit, Holds}
+use Rattle.calls.specs.Sets.{has, in_row, Relation, Fit, Holds, Joined}
 use Rattle.calls.specs.Reached.{reach}
-use Rattle.calls.proofs.Bits.{has_nothing}
+use Rattle.calls.proofs.Bits.{has_nothing, has_or}
 use Rattle.model.specs.Limits.{chains_most}
 use Rattle.calls.proofs.Bools.{or_false, or_self}
 
@@ -50,6 +51,14 @@ module _ (sets : List ℕ) (fit : Fit sets) (a v : ℕ) (lt : a < chains_most) w
       | no ne ↦ rw (ne_eqb x a ne) (row_other x e ne ∙ sym (or_false (in_row sets x e)))
     ];
   }
+
+-- a union is one
+pub joined : (sets : List ℕ) → Fit sets → (a k : ℕ) → a < chains_most → Joined a k sets (set sets a (bit_or (get_or sets a 0) (get_or sets k 0)))
+unfolding in_row
+joined sets fit a k lt =
+    let x = get_or sets a 0 in
+    let y = get_or sets k 0 in
+    grown sets fit a (bit_or x y) lt (or_lt chains_most x y (fit.words a) (fit.words k)) (λ e. in_row sets k e) (has_or x y)
 
 pub empty : Fit (replicate chains_most 0)
 empty = record { size = length-replicate {A = ℕ} chains_most 0; words = λ c. elim (dec_lt c chains_most) [ yes lt ↦ rw (get_or-replicate {A = ℕ} chains_most c 0 0 lt) (omega arith) | no ge ↦ rw (get_or-eq_default {A = ℕ} (replicate chains_most 0) 0 {n = c} (omega (arith, length-replicate {A = ℕ} chains_most 0))) (omega arith) ] }
@@ -88,7 +97,7 @@ module _ (o : Relation) (k : ℕ) where
 
   module _ (sets : List ℕ) (a : ℕ) (la : a < chains_most) (lk : k < chains_most) (h : Holds sets (part a)) where
     -- row a has k: it takes k's set
-    pub took : in_row sets a k ≡ true → (after : List ℕ) → Holds after (λ x e. in_row sets x e || (eqb x a && in_row sets k e)) → Holds after (part (a + 1))
+    pub took : in_row sets a k ≡ true → (after : List ℕ) → Joined a k sets after → Holds after (part (a + 1))
     took q after j = record {
       fit = j.fit;
       bits = λ x e lx le. j.bits x e lx le ∙ elim (ℕ_discrete x a) [

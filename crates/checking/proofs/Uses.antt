@@ -1,40 +1,55 @@
 -- What a checked book gives to whoever goes on with it.
-use Prim.Native.Nat.{ℕ}
-use native.Mathlib.Omega.{arith}
-use mathlib.Core.List.{List}
-use mathlib.Core.Path.{◌≡◌, refl, ap, sym, ◌∙◌}
+use Rattle.std.proofs.Common.{◌≡◌, ℕ, List, refl, sym, ap, ◌∙◌}
+use Rattle.std.specs.Prelude.{Result, Ok, Err}
 use Rattle.model.specs.Answer.{Answer, fine, refused}
 use Rattle.model.specs.Tree.{Book}
 use Rattle.model.specs.Calls.{checked, readable}
 use Rattle.model.proofs.Placed.{readable_read}
-use Rattle.book.specs.Contents.{contents_of}
-use Rattle.book.specs.Told.{book_answer}
-use Rattle.book.proofs.Charts.{contents_charted}
+use Rattle.refusals.specs.Refusals.{number_of, told_as}
+use Rattle.refusals.specs.declared.Refusal.{Refusal}
+use Rattle.refusals.proofs.Unique.{value_in}
+use Rattle.book.specs.Contents.{verdict_number, contents_of, Charted}
+use Rattle.book.specs.declared.Contents.{Contents}
+use Rattle.book.proofs.Charts.{contents_charted, contents_policy}
 use Rattle.calls.specs.Checked.{Passes}
 use Rattle.calls.proofs.Charted.{passes}
-use Rattle.checking.specs.Checks.{refusal_of, Checks}
-use Rattle.checking.specs.declared.Reading.TheVariants.{Fine, Refused}
+use Rattle.checking.specs.Checks.{contents_read, Checks, CheckedFrom}
 use Rattle.checking.specs.declared.Checked.{Checked}
-use Rattle.checking.proofs.Whole.{ChartedBy}
 
--- no refusal, or that one
-pub fine_of : {A : Type 0} (a : Answer A) → refusal_of a ≡ Fine → (x : A) × (a ≡ fine x)
-fine_of (fine x) e = (x, refl)
-fine_of (refused n p) e = absurd (let z : ◌≡◌ {A = ℕ} 0 1 = cc in omega arith)
+-- what an answer of the check says
+said : Result Checked Refusal → Answer Contents
+said = told_as (λ (k : Checked). k.contents)
 
-pub refused_of : {A : Type 0} (a : Answer A) (n p : ℕ) → refusal_of a ≡ Refused n p → a ≡ refused n p
-refused_of (fine x) n p e = absurd (let z : ◌≡◌ {A = ℕ} 0 1 = cc in omega arith)
-refused_of (refused m q) n p e = let y : m ≡ n = cc in let z : q ≡ p = cc in cc
+module _ (s : List ℕ) (r : Result Checked Refusal) (h : Checks s r) where
+  -- contents and ranks come from a book that is read
+  pub from_ok : (k : Checked) → r ≡ Ok k → CheckedFrom s k
+  unfolding said
+  from_ok k e = go (readable s) refl (sym (ap said e) ∙ h.answer)
+    where
+      go : (a : Answer Book) → readable s ≡ a → fine k.contents ≡ contents_read a → CheckedFrom s k
+      go (fine b) q f = record { book = b; read = q; contents = ap (value_in k.contents) f; ranked = h.ranked k e }
+      go (refused n p) q f = absurd (cc)
+
+  -- and a refusal is document 01's
+  pub from_err : (e : Refusal) → r ≡ Err e → readable s ≡ refused (number_of e.fault) e.place
+  unfolding said
+  from_err e q = go (readable s) (sym (ap said q) ∙ h.answer)
+    where
+      go : (a : Answer Book) → refused (number_of e.fault) e.place ≡ contents_read a → a ≡ refused (number_of e.fault) e.place
+      go (fine b) f = absurd (cc)
+      go (refused n p) f = cc
+
+-- the contents are those of the book
+pub same_book : (s : List ℕ) (k : Checked) → CheckedFrom s k → (b : Book) → readable s ≡ fine b → k.contents ≡ contents_of b
+same_book s k h b e = let same : h.book ≡ b = cc in h.contents ∙ ap contents_of same
 
 module _ (s : List ℕ) (b : Book) (e : readable s ≡ fine b) where
-  pub readable_charted : ChartedBy b (contents_of b)
+  pub readable_charted : Charted b (contents_of b)
   readable_charted = let r = readable_read s b e in contents_charted s b r.0 r.1
 
   pub readable_passes : Passes b
   unfolding readable
   readable_passes = let r = readable_read s b e in passes b r.0 (ap checked (sym r.1) ∙ e)
 
--- the contents are those of the book
-pub contents_of_lem : (s : List ℕ) (r : Checked) → Checks s r → (b : Book) → readable s ≡ fine b → r.contents ≡ contents_of b
-unfolding book_answer
-contents_of_lem s r h b e = let k = readable_read s b e in h.contents ∙ ap (λ x. (book_answer x).contents) k.1
+  pub readable_policy : b.policy ≡ verdict_number (contents_of b).policy
+  readable_policy = let r = readable_read s b e in contents_policy s b r.0 r.1

@@ -1,29 +1,39 @@
 -- What checking a book answers.
-use Rattle.std.specs.Prelude.{ℕ, List, ◌≡◌}
+use Rattle.std.specs.Prelude.{ℕ, List, ◌≡◌, Result, Ok}
 use Rattle.model.specs.Answer.{Answer, fine, refused}
 use Rattle.model.specs.Tree.{Book}
-use Rattle.model.specs.Book.{book_of}
-use Rattle.model.specs.Calls.{readable}
-use Rattle.book.specs.Told.{book_answer}
+use Rattle.model.specs.Reader.{Stand, got}
+use Rattle.model.specs.Calls.{readable, checked}
+use Rattle.refusals.specs.Refusals.{told_as}
+use Rattle.refusals.specs.declared.Refusal.{Refusal}
+use Rattle.book.specs.Contents.{contents_of}
+use Rattle.book.specs.declared.Contents.{Contents}
 use Rattle.calls.specs.Weights.{rank_in, Ranked}
-use Rattle.calls.specs.declared.CallCheck.{CallCheck}
-use Rattle.calls.specs.declared.CallCheck.TheVariants as calls
-use Rattle.checking.specs.declared.Reading.{Reading}
-use Rattle.checking.specs.declared.Reading.TheVariants.{Fine, Refused}
 use Rattle.checking.specs.declared.Checked.{Checked}
 
--- an answer without its value: no refusal, or its number and place
-abbrev pub refusal_of : {A : Type 0} → Answer A → Reading
-refusal_of (fine a) = Fine
-refusal_of (refused n p) = Refused n p
+-- the contents of a book that is read
+abbrev pub contents_read : Answer Book → Answer Contents
+contents_read (fine b) = fine (contents_of b)
+contents_read (refused n p) = refused n p
 
-abbrev pub judgement : CallCheck → Reading
-judgement calls.Fine = Fine
-judgement (calls.Loop c) = Refused 9 c.0
-judgement calls.Heavy = Refused 10 0
+-- 9 and 10 of the book that the contents are of; else ranks that fall at each of its calls
+pub record RanksCalls (k : Contents) (b : Book) (st : Stand) (r : Result (List ℕ) Refusal) : Type 0 where
+  pub answer : told_as (λ (ranks : List ℕ). b) r ≡ checked (got b st)
+  pub ranked : (ranks : List ℕ) → r ≡ Ok ranks → Ranked k (rank_in ranks)
 
--- the refusals of document 01 in their order; the contents as the book was read; and ranks that fall at each call of a book that is not refused
-pub record Checks (s : List ℕ) (r : Checked) : Type 0 where
-  pub answer : r.reading ≡ refusal_of (readable s)
-  pub contents : r.contents ≡ (book_answer (book_of s)).contents
-  pub ranked : (b : Book) → readable s ≡ fine b → Ranked r.contents.first r.contents.action r.contents.target r.contents.chains (rank_in r.ranks)
+-- the refusals of document 01 in their order; else the contents of the book, and ranks that fall at each of its calls
+pub record Checks (s : List ℕ) (r : Result Checked Refusal) : Type 0 where
+  pub answer : told_as (λ (k : Checked). k.contents) r ≡ contents_read (readable s)
+  pub ranked : (k : Checked) → r ≡ Ok k → Ranked k.contents (rank_in k.ranks)
+
+-- WHAT USERS GO BY: these are the contents and ranks of the book that was read out of s without refusal
+pub record CheckedFrom (s : List ℕ) (k : Checked) : Type 0 where
+  pub book : Book
+  pub read : readable s ≡ fine book
+  pub contents : k.contents ≡ contents_of book
+  pub ranked : Ranked k.contents (rank_in k.ranks)
+
+-- of some bytes
+pub record Ready (k : Checked) : Type 0 where
+  pub bytes : List ℕ
+  pub from : CheckedFrom bytes k

@@ -7,16 +7,18 @@ use lib.Dec.{leb}
 use borrow.Author.Tests.{le-leb}
 use native.Mathlib.Omega.{arith}
 use Rattle.model.specs.Limits.{greatest}
-use Rattle.model.specs.Answer.{when}
-use Rattle.model.specs.Reader.{Stand, got, refused, after}
-use Rattle.model.specs.Number.{Numeral, numeral, illegible, number_at, onward, number}
+use Rattle.model.specs.Answer as answer
+use Rattle.model.specs.Answer.{Answer, fine, when}
+use Rattle.model.specs.Reader.{Stand, after}
+use Rattle.model.specs.Number.{Numeral, numeral, illegible, number_at, number}
 use Rattle.model.specs.Book.{within}
 use Rattle.model.proofs.NumberPast.{number_past}
 use Rattle.numbers.specs.Field.{bounded, field_at}
-use Rattle.numbers.proofs.Fields.{within_is}
-use Rattle.expressions.specs.Told.{told, stand, twice}
+use Rattle.numbers.specs.Told.{numbered}
+use Rattle.numbers.specs.declared.Number.{Number}
+use Rattle.numbers.proofs.Fields.{read_of, number_is, within_is}
+use Rattle.expressions.specs.Told.{noted, stand, twice}
 use Rattle.expressions.specs.declared.ExpressionRead.{ExpressionRead}
-use Rattle.expressions.specs.declared.ExpressionRead.TheVariants.{Got, Refused}
 
 -- any number is a field with the widest limits
 pub number_any : (s : List ℕ) (at : ℕ) → number_at s at ≡ field_at s at 0 greatest
@@ -28,8 +30,7 @@ number_any s at = go (number_at s at) refl
     go (illegible n) e = refl
 
 pub number_field : (s : List ℕ) (st : Stand) → number s st ≡ within 0 greatest s st
-unfolding number
-number_field s st = ap (onward st) (number_any s st.at) ∙ sym (within_is 0 greatest s st)
+number_field s st = number_is s st ∙ ap (λ n. read_of st (numbered st.at n)) (number_any s st.at) ∙ sym (within_is 0 greatest s st)
 
 -- a field is the number that stands there
 pub field_number : (s : List ℕ) (at low high v next : ℕ) → field_at s at low high ≡ numeral v next → number_at s at ≡ numeral v next
@@ -44,24 +45,22 @@ field_number s at low high v next e = go (number_at s at) e
     go (numeral w x) q = judge (leb low w && leb w high) w x q
     go (illegible n) q = q
 
-module _ (s : List ℕ) (at low high rules sources : ℕ) where
-  pub field_got : (v next : ℕ) → field_at s at low high ≡ numeral v next → within low high s (stand at rules sources) ≡ got v (stand next rules sources)
-  field_got v next e = within_is low high s (stand at rules sources) ∙ ap (onward (stand at rules sources)) e
-
-  pub field_refused : (n : ℕ) → field_at s at low high ≡ illegible n → within low high s (stand at rules sources) ≡ refused n at
-  field_refused n e = within_is low high s (stand at rules sources) ∙ ap (onward (stand at rules sources)) e
+-- what the model's reader reads where the code answers this
+pub field_read : (s : List ℕ) (at low high rules sources : ℕ) (a : Answer Number) → a ≡ numbered at (field_at s at low high)
+    → within low high s (stand at rules sources) ≡ read_of (stand at rules sources) a
+field_read s at low high rules sources a e = within_is low high s (stand at rules sources) ∙ ap (read_of (stand at rules sources)) (sym e)
 
 -- one field, two fields
 module _ (s : List ℕ) (at most sources : ℕ) where
-  pub one_refused : (n : ℕ) → field_at s at 0 most ≡ illegible n → (rules : ℕ) → Refused n at ≡ told (within 0 most s (stand at rules sources))
-  one_refused n e rules = sym (ap told (field_refused s at 0 most rules sources n e))
+  pub one : (a : Answer Number) → a ≡ numbered at (field_at s at 0 most) → (rules : ℕ)
+      → noted (read_of (stand at rules sources) a) ≡ noted (within 0 most s (stand at rules sources))
+  one a e rules = sym (ap noted (field_read s at 0 most rules sources a e))
 
-  pub one_got : (v next : ℕ) → field_at s at 0 most ≡ numeral v next → (rules : ℕ) → Got next sources ≡ told (within 0 most s (stand at rules sources))
-  one_got v next e rules = sym (ap told (field_got s at 0 most rules sources v next e))
+  pub two_refused : (n p : ℕ) → answer.refused n p ≡ numbered at (field_at s at 0 most) → (rules : ℕ)
+      → answer.refused n p ≡ noted (twice most s (stand at rules sources))
+  two_refused n p e rules = sym (ap (λ m. noted (after m (λ low st. within 0 most s st))) (field_read s at 0 most rules sources (answer.refused n p) e))
 
-  pub two_refused : (n : ℕ) → field_at s at 0 most ≡ illegible n → (rules : ℕ) → Refused n at ≡ told (twice most s (stand at rules sources))
-  two_refused n e rules = sym (ap (λ m. told (after m (λ low st. within 0 most s st))) (field_refused s at 0 most rules sources n e))
-
-  pub two_got : (v next : ℕ) → field_at s at 0 most ≡ numeral v next → (r : ExpressionRead) → ((rules : ℕ) → r ≡ told (within 0 most s (stand next rules sources)))
-      → (rules : ℕ) → r ≡ told (twice most s (stand at rules sources))
-  two_got v next e r h rules = h rules ∙ sym (ap (λ m. told (after m (λ low st. within 0 most s st))) (field_got s at 0 most rules sources v next e))
+  pub two_got : (n : Number) → fine n ≡ numbered at (field_at s at 0 most) → (r : Answer ExpressionRead)
+      → ((rules : ℕ) → r ≡ noted (within 0 most s (stand n.next rules sources)))
+      → (rules : ℕ) → r ≡ noted (twice most s (stand at rules sources))
+  two_got n e r h rules = h rules ∙ sym (ap (λ m. noted (after m (λ low st. within 0 most s st))) (field_read s at 0 most rules sources (fine n) e))

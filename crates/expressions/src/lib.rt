@@ -4,15 +4,57 @@
 ghost use Rattle.std.specs.Prelude.{◌≡◌, ℕ, suc};
 ghost use Rattle.model.specs.Reader.{each};
 ghost use Rattle.model.specs.Book.{within, expression};
-ghost use Rattle.expressions.specs.Told.{told, stand, twice, Plain};
+ghost use Rattle.refusals.specs.Refusals.{told};
+ghost use Rattle.expressions.specs.Told.{noted, stand, twice};
+ghost use Rattle.expressions.specs.Kinds.{Names, Plain};
 
-use numbers::{LARGEST, NumberRead, read_field, read_number};
+use numbers::{LARGEST, read_field, read_number};
+use refusals::{Fault, Refusal};
 
-// What reading an expression finds: the place after it and the kinds 3 counted so far, or the refusal's number and place.
-#[derive(Clone, Copy)]
-pub enum ExpressionRead {
-    Got(usize, u32),
-    Refused(u32, usize),
+// Where reading an expression ends: the place after it, and the kinds 3 counted so far.
+#[derive(Clone, Copy, PartialEq, Eq)]
+pub struct ExpressionRead {
+    pub next: usize,
+    pub sources: u32,
+}
+
+// The kinds of an expression, in the order of their numbers.
+#[derive(Clone, Copy, PartialEq, Eq)]
+pub enum Kind {
+    Always,
+    Not,
+    All,
+    Source,
+    Port,
+    Destination,
+    Protocol,
+    Service,
+    Unread,
+}
+
+// A number that names no kind.
+#[derive(Clone, Copy, PartialEq, Eq)]
+pub struct UnknownKind(pub u32);
+
+impl TryFrom<u32> for Kind {
+    type Error = UnknownKind;
+
+    ghost try_from_gives = { Names };
+
+    fn try_from(number: u32) -> Result<Kind, UnknownKind> {
+        Ok(match number {
+            0 => Kind::Always,
+            1 => Kind::Not,
+            2 => Kind::All,
+            3 => Kind::Source,
+            4 => Kind::Port,
+            5 => Kind::Destination,
+            6 => Kind::Protocol,
+            7 => Kind::Service,
+            8 => Kind::Unread,
+            _ => return Err(UnknownKind(number)),
+        })
+    }
 }
 
 // The levels that a rule's own expression may enter: its own and those below it.
@@ -34,96 +76,88 @@ const UNREAD: u64 = 255;
 const ADDRESS: u64 = LARGEST;
 
 // An expression's one number.
-fn read_one(s: &[u8], at: usize, high: u64, sources: u32) -> ExpressionRead
-    ensures { (rules : ℕ) → result ≡ told (within 0 high s.now (stand at rules sources)) }
+fn read_one(s: &[u8], at: usize, high: u64, sources: u32) -> Result<ExpressionRead, Refusal>
+    ensures { (rules : ℕ) → told result ≡ noted (within 0 high s.now (stand at rules sources)) }
 {
-    match read_field(s, at, 0, high) {
-        NumberRead::Refused(n) => ExpressionRead::Refused(n, at),
-        NumberRead::Got(_, next) => ExpressionRead::Got(next, sources),
-    }
+    let number = read_field(s, at, 0, high)?;
+    Ok(ExpressionRead {
+        next: number.next,
+        sources,
+    })
 }
 
 // An expression's low and high.
-fn read_two(s: &[u8], at: usize, high: u64, sources: u32) -> ExpressionRead
-    ensures { (rules : ℕ) → result ≡ told (twice high s.now (stand at rules sources)) }
+fn read_two(s: &[u8], at: usize, high: u64, sources: u32) -> Result<ExpressionRead, Refusal>
+    ensures { (rules : ℕ) → told result ≡ noted (twice high s.now (stand at rules sources)) }
 {
-    match read_field(s, at, 0, high) {
-        NumberRead::Refused(n) => ExpressionRead::Refused(n, at),
-        NumberRead::Got(_, middle) => read_one(s, middle, high, sources),
-    }
+    let low = read_field(s, at, 0, high)?;
+    read_one(s, low.next, high, sources)
 }
 
-// What stands after a kind without operands. The kind stands at `place`, where 4 and 7 are given.
-fn read_plain(s: &[u8], place: usize, kind: u32, at: usize, sources: u32) -> ExpressionRead
+// What stands after a kind without operands. The kind stands at `place`, where 7 is given.
+fn read_plain(
+    s: &[u8],
+    place: usize,
+    kind: Kind,
+    at: usize,
+    sources: u32,
+) -> Result<ExpressionRead, Refusal>
     requires { Plain s.now place kind at }
-    ensures { (levels rules : ℕ) → result ≡ told (expression (suc levels) s.now (stand place rules sources)) }
+    ensures { (levels rules : ℕ) → told result ≡ noted (expression (suc levels) s.now (stand place rules sources)) }
 {
-    if kind == 0 {
-        return ExpressionRead::Got(at, sources);
+    match kind {
+        Kind::Source if SOURCES <= sources => Err(Fault::TooManySources.at(place)),
+        Kind::Source => read_two(s, at, ADDRESS, sources + 1),
+        Kind::Port => read_one(s, at, PORT, sources),
+        Kind::Destination => read_two(s, at, ADDRESS, sources),
+        Kind::Protocol => read_one(s, at, PROTOCOL, sources),
+        Kind::Service => read_two(s, at, SERVICE, sources),
+        Kind::Unread => read_one(s, at, UNREAD, sources),
+        _ => Ok(ExpressionRead { next: at, sources }),
     }
-    if kind == 3 {
-        if sources < SOURCES {
-            return read_two(s, at, ADDRESS, sources + 1);
-        }
-        return ExpressionRead::Refused(7, place);
-    }
-    if kind == 4 {
-        return read_one(s, at, PORT, sources);
-    }
-    if kind == 5 {
-        return read_two(s, at, ADDRESS, sources);
-    }
-    if kind == 6 {
-        return read_one(s, at, PROTOCOL, sources);
-    }
-    if kind == 7 {
-        return read_two(s, at, SERVICE, sources);
-    }
-    if kind == 8 {
-        return read_one(s, at, UNREAD, sources);
-    }
-    ExpressionRead::Refused(4, place)
 }
 
 // An expression that may enter so many levels, where so many kinds 3 stand before it. The level is checked before the kind is read.
 #[cycle(read_expression_read_operands)]
-pub fn read_expression(s: &[u8], at: usize, levels: u32, sources: u32) -> ExpressionRead
-    ensures { (rules : ℕ) → result ≡ told (expression levels s.now (stand at rules sources)) }
+pub fn read_expression(
+    s: &[u8],
+    at: usize,
+    levels: u32,
+    sources: u32,
+) -> Result<ExpressionRead, Refusal>
+    ensures { (rules : ℕ) → told result ≡ noted (expression levels s.now (stand at rules sources)) }
 {
     if levels == 0 {
-        return ExpressionRead::Refused(6, at);
+        return Err(Fault::TooDeep.at(at));
     }
-    match read_number(s, at) {
-        NumberRead::Refused(n) => ExpressionRead::Refused(n, at),
-        NumberRead::Got(kind, next) => {
-            if kind == 1 {
-                return read_expression(s, next, levels - 1, sources);
-            }
-            if kind == 2 {
-                match read_field(s, next, 2, OPERANDS) {
-                    NumberRead::Refused(n) => {
-                        return ExpressionRead::Refused(n, next);
-                    }
-                    NumberRead::Got(count, first) => {
-                        return read_operands(s, first, levels - 1, sources, count);
-                    }
-                }
-            }
-            read_plain(s, at, kind, next, sources)
+    let number = read_number(s, at)?;
+    let Ok(kind) = Kind::try_from(number.value) else {
+        return Err(Fault::OutOfRange.at(at));
+    };
+    match kind {
+        Kind::Not => read_expression(s, number.next, levels - 1, sources),
+        Kind::All => {
+            let count = read_field(s, number.next, 2, OPERANDS)?;
+            read_operands(s, count.next, levels - 1, sources, count.value)
         }
+        _ => read_plain(s, at, kind, number.next, sources),
     }
 }
 
 // So many operands, one after the other.
 #[cycle(read_expression_read_operands)]
-fn read_operands(s: &[u8], at: usize, levels: u32, sources: u32, count: u32) -> ExpressionRead
-    ensures { (rules i : ℕ) → result ≡ told (each count i (λ j. expression levels) s.now (stand at rules sources)) }
+fn read_operands(
+    s: &[u8],
+    at: usize,
+    levels: u32,
+    sources: u32,
+    count: u32,
+) -> Result<ExpressionRead, Refusal>
+    ensures { (rules i : ℕ) → told result ≡ noted (each count i (λ j. expression levels) s.now (stand at rules sources)) }
 {
     if count == 0 {
-        return ExpressionRead::Got(at, sources);
+        return Ok(ExpressionRead { next: at, sources });
     }
-    match read_expression(s, at, levels, sources) {
-        ExpressionRead::Refused(n, place) => ExpressionRead::Refused(n, place),
-        ExpressionRead::Got(next, counted) => read_operands(s, next, levels, counted, count - 1),
-    }
+    let first = read_expression(s, at, levels, sources)?;
+    read_operands(s, first.next, levels, first.sources, count - 1)
 }

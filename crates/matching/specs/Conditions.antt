@@ -21,17 +21,20 @@ abbrev pub Written : List ℕ → List ℕ → ℕ → List Condition → Type 0
 Written s words at [] = Unit {0}
 Written s words at (c ∷ cs) = Noted s words at c × Written s words (suc at) cs
 
--- some conditions are, as many as `count`
-pub record Writing (s words : List ℕ) (from count : ℕ) : Type 0 where
+-- these conditions are the words, one for each
+pub record WrittenAs (s words : List ℕ) (cs : List Condition) : Type 0 where
+  pub counted : length cs ≡ length words
+  pub written : Written s words 0 cs
+
+-- so some conditions are
+pub record Writing (s words : List ℕ) : Type 0 where
   pub conditions : List Condition
-  pub counted : length conditions ≡ count
-  pub written : Written s words from conditions
+  pub are : WrittenAs s words conditions
 
 abbrev pub SeesCondition : Asking → ℕ → List ℕ → List ℕ → ℕ → Held → Type 0
 SeesCondition a x s answers word r = (e : Expr) (next : ℕ) → Stands s (word / 2) e next
-    → Sees (λ y. condition_value (value (sight a answers y)) (record { negated = eqb (word % 2) 1; match = e })) x r.value r.until
+    → Sees (λ y. condition_value (value (sight a answers y)) (record { negated = eqb (word % 2) 1; match = e })) x r
 
--- what is held is what whatever conditions are written there come to
-abbrev pub SeesConditions : Asking → ℕ → List ℕ → List ℕ → List ℕ → ℕ → ℕ → Held → Type 0
-SeesConditions a x s answers words from count r = (cs : List Condition) → length cs ≡ count → Written s words from cs
-    → Sees (λ y. conditions_value (value (sight a answers y)) cs) x r.value r.until
+-- what is held is what whatever conditions the words are come to
+abbrev pub SeesConditions : Asking → ℕ → List ℕ → List ℕ → List ℕ → Held → Type 0
+SeesConditions a x s answers words r = (cs : List Condition) → WrittenAs s words cs → Sees (λ y. conditions_value (value (sight a answers y)) cs) x r

@@ -98,17 +98,14 @@ pub rest_start : (s : List ℕ) (at : ℕ) → number_at s at ≡ rest at 0 1 at
 unfolding number_at
 rest_start s at = starts at (writing 5 (drop at s))
 
--- a group's worth is small, while a byte is left to read
-pub scale_small : (left sc : ℕ) → 0 < left → left ≤ 5 → sc ≡ 128 ^ (5 - left) → sc ≤ 268435456
-scale_small left sc more le e = rw e (pow-le-pow_right (omega arith) {j = 4} (omega arith))
+-- a group's worth is small, while a byte is left to read, and so is what is added
+pub room : (k sc b : ℕ) → k ≤ 4 → sc ≡ 128 ^ k → b < 128 → (sc ≤ 268435456) × (b * sc ≤ 34091302912)
+room k sc b few e small =
+    let scale : sc ≤ 268435456 = rw e (pow-le-pow_right (omega arith) {j = 4} few) in
+    (scale, mul-le-mul {n₂ = 127} {m₂ = 268435456} (omega arith) scale)
 
-pub scale_next : (left : ℕ) → 0 < left → left ≤ 5 → 128 ^ (5 - left) * 128 ≡ 128 ^ (5 - (left - 1))
-scale_next left more le =
-    let e : 5 - (left - 1) ≡ suc (5 - left) = omega arith in
-    rw (e, pow-suc)
-
-pub product_small : (b sc : ℕ) → b < 128 → sc ≤ 268435456 → b * sc ≤ 34091302912
-product_small b sc h k = mul-le-mul {n₂ = 127} {m₂ = 268435456} (omega arith) k
+pub scale_next : (k sc : ℕ) → sc ≡ 128 ^ k → sc * 128 ≡ 128 ^ (k + 1)
+scale_next k sc e = rw (e, add-one, pow-suc)
 
 pub sum_small : (v b sc : ℕ) → b < 128 → v < sc → v + b * sc < sc * 128
 sum_small v b sc h k = omega (arith, mul-le-mul_right {n = 127} sc (le-pred_of_lt h))

@@ -1,4 +1,5 @@
 -- THE CONTENTS OF A READ PLAN ARE THE PLAN, and what code that walks over them may go by.
+use Rattle.std.specs.Prelude.{Result, Ok, Err, Some}
 use Prim.Native.Nat.{ℕ, zero, suc, ◌+◌, ◌-◌, ◌*◌, ◌≤◌, ◌<◌}
 use mathlib.Core.List.{List, [], ◌∷◌}
 use mathlib.Core.Path.{◌≡◌, refl, ap, sym, subst, ◌∙◌}
@@ -12,13 +13,11 @@ use Rattle.model.specs.Answer.{Answer, fine}
 use Rattle.model.specs.Spans.{Canonical}
 use Rattle.model.specs.Plan.{Port, plan_of}
 use Rattle.model.proofs.PlanRead.{GoodPorts, GoodPlan, plan_good}
-use Rattle.plan.specs.declared.PlanRead.{PlanRead}
-use Rattle.plan.specs.declared.PlanRead.TheVariants.{Fine, Refused}
+use Rattle.refusals.specs.declared.Refusal.{Refusal}
+use Rattle.refusals.specs.Refusals.{number_of, told}
 use Rattle.plan.specs.declared.PlanContents.{PlanContents}
-use Rattle.plan.specs.declared.PlanAnswer.{PlanAnswer}
-use Rattle.plan.specs.declared.Asked.TheVariants.{At}
 use Rattle.plan.specs.Contents.{asked, contents_of, plan_answer, ranges_at, PlanShape, PlanCharted}
-use Rattle.plan.proofs.Ports.{all_room}
+use Rattle.plan.proofs.Room.{all_room}
 use Rattle.plan.proofs.Held.{Held, held, held_first, held_next, held_ranges, held_ports, held_asked}
 
 -- port j of the contents, with all ranges up to its own before `most`
@@ -62,7 +61,7 @@ shape_of ps g = record {
 
 -- numbers rise, so a port asked by its own number is found
 found : (c : PlanContents) (k to least : ℕ) (ps : List Port) → Held c k to ps → GoodPorts least ps → (i j : ℕ) → j ≡ k + i → i < length ps →
-    (least ≤ get_or c.number j 0) × (asked c.number (get_or c.number j 0) k (length ps) ≡ At j)
+    (least ≤ get_or c.number j 0) × (asked c.number (get_or c.number j 0) k (length ps) ≡ Some j)
 unfolding asked
 found c k to least [] h g i j e lt = absurd (omega arith)
 found c k to least (p ∷ ps) h g zero j e lt =
@@ -84,19 +83,24 @@ plan_charted s ps e = record {
 
 -- ---- from the answer back to the plan
 
-pub answer_fine : (m : Answer (List Port)) (a : PlanAnswer) → a ≡ plan_answer m → a.read ≡ Fine → (ps : List Port) × (m ≡ fine ps) × (a.contents ≡ contents_of ps)
-answer_fine (fine ps) a e f = (ps, refl, ap (λ (x : PlanAnswer). x.contents) e)
-answer_fine (answer.refused n p) a e f = absurd (let g : ◌≡◌ {A = PlanRead} Fine (Refused n p) = sym f ∙ ap (λ (x : PlanAnswer). x.read) e in let z : ◌≡◌ {A = ℕ} 0 1 = cc in omega arith)
+module _ (s : List ℕ) (r : Result PlanContents Refusal) (answer_is : told r ≡ plan_answer (plan_of s)) where
+  pub answer_fine : (c : PlanContents) → r ≡ Ok c → (ps : List Port) × (plan_of s ≡ fine ps) × (c ≡ contents_of ps)
+  answer_fine c f = go (plan_of s) refl (sym (ap told f) ∙ answer_is)
+    where
+      go : (m : Answer (List Port)) → plan_of s ≡ m → fine c ≡ plan_answer m → (ps : List Port) × (plan_of s ≡ fine ps) × (c ≡ contents_of ps)
+      go (fine ps) q e = (ps, q, (cc))
+      go (answer.refused n p) q e = cc
 
-pub answer_refused : (m : Answer (List Port)) (a : PlanAnswer) (n p : ℕ) → a ≡ plan_answer m → a.read ≡ Refused n p → m ≡ answer.refused n p
-answer_refused (fine ps) a n p e f = absurd (let g : ◌≡◌ {A = PlanRead} Fine (Refused n p) = sym (ap (λ (x : PlanAnswer). x.read) e) ∙ f in let z : ◌≡◌ {A = ℕ} 0 1 = cc in omega arith)
-answer_refused (answer.refused k q) a n p e f = let g : ◌≡◌ {A = PlanRead} (Refused k q) (Refused n p) = sym (ap (λ (x : PlanAnswer). x.read) e) ∙ f in cc
+  pub answer_refused : (e : Refusal) → r ≡ Err e → plan_of s ≡ answer.refused (number_of e.fault) e.place
+  answer_refused e f = go (plan_of s) refl (sym (ap told f) ∙ answer_is)
+    where
+      go : (m : Answer (List Port)) → plan_of s ≡ m → answer.refused (number_of e.fault) e.place ≡ plan_answer m → plan_of s ≡ answer.refused (number_of e.fault) e.place
+      go (fine ps) q g = cc
+      go (answer.refused n p) q g = cc
 
--- whatever the bytes, the ports that are told have slots
-pub answer_few : (s : List ℕ) (a : PlanAnswer) → a ≡ plan_answer (plan_of s) → a.contents.ports ≤ ports_most
-unfolding contents_of
-answer_few s a e = go (plan_of s) refl e
-  where
-    go : (m : Answer (List Port)) → plan_of s ≡ m → a ≡ plan_answer m → a.contents.ports ≤ ports_most
-    go (fine ps) f h = omega (arith, (plan_good s ps f).few, ap (λ (x : PlanAnswer). x.contents.ports) h)
-    go (answer.refused n p) f h = omega (arith, ap (λ (x : PlanAnswer). x.contents.ports) h)
+  -- whatever the bytes, the ports that are told have slots
+  pub answer_few : (c : PlanContents) → r ≡ Ok c → c.ports ≤ ports_most
+  unfolding contents_of
+  answer_few c f =
+      let told_fine = answer_fine c f in
+      omega (arith, (plan_good s told_fine.0 told_fine.1).few, ap (λ (x : PlanContents). x.ports) told_fine.2)

@@ -13,7 +13,7 @@ use Rattle.model.specs.Spans.{Span, Spans}
 use Rattle.model.specs.Plan.{Port, ranges_of}
 use Rattle.model.specs.Filling.{padded}
 use Rattle.plan.specs.declared.PlanContents.{PlanContents}
-use Rattle.plan.specs.declared.Asked.TheVariants.{At}
+use Rattle.std.specs.Prelude.{Some}
 use Rattle.plan.specs.Contents.{lows, highs, numbers, all_ranges, starts, contents_of, spans_from, ranges_at, ports_at, asked, ranges_asked}
 
 -- xs stands in w from k on
@@ -89,6 +89,6 @@ module _ (c : PlanContents) where
   held_asked port k to (p ∷ ps) h = rw h.1 (go (eqb p.number port) (held_asked port (suc k) (to + length p.ranges) ps h.3))
     where
       go : (b : Bool) → ranges_of port ps ≡ ranges_asked c port (asked c.number port (suc k) (length ps)) →
-          when b (fine p.ranges) (ranges_of port ps) ≡ ranges_asked c port (when b (At k) (asked c.number port (suc k) (length ps)))
+          when b (fine p.ranges) (ranges_of port ps) ≡ ranges_asked c port (when b (Some k) (asked c.number port (suc k) (length ps)))
       go true rest = ap fine (sym (held_ranges k to p ps h))
       go false rest = rest

@@ -1,11 +1,11 @@
 -- What the proofs of this crate cite.
-mod Fields
-mod Told
+mod Room
+mod Held
+mod Readings
+mod Asking
 mod Ranges
 mod Ports
 mod Whole
-mod Asking
-mod Held
 -- What those above cite.
 pub mod Charted
 pub mod Unique

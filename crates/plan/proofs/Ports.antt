@@ -1,60 +1,54 @@
 -- One port, and then: to write the ports that are left is to write all.
-use Prim.Native.Nat.{ℕ, zero, suc, ◌+◌, ◌*◌, ◌≤◌, ◌<◌}
-use mathlib.Core.List.{List, ◌∷◌, ◌++◌, map, map-append}
-use mathlib.Core.Path.{◌≡◌, refl, ap, sym, subst, ◌∙◌}
-use native.Mathlib.Omega.{arith}
-use native.Mathlib.Nat.{suc-mul, mul-le-mul_right}
-use native.Mathlib.Numerals.{add-one}
-use lib.ListN.{length, set, length-map}
+use Rattle.std.specs.Prelude.{Result, Ok, Err}
+use Rattle.std.proofs.Common.{◌≡◌, ◌∙◌, ℕ, zero, suc, ◌+◌, ◌≤◌, ◌<◌, List, ◌∷◌, ◌++◌, map, length, set, refl, ap, sym, subst, add-one, arith}
+use mathlib.Core.List.{map-append}
+use lib.ListN.{length-map}
 use Rattle.model.specs.Limits.{port_highest, ranges_most}
 use Rattle.model.specs.Reader.{Stand, Read, got, refused, after}
-use Rattle.model.specs.Number.{numeral, illegible}
 use Rattle.model.specs.Book.{within}
 use Rattle.model.specs.Spans.{Span, Spans}
 use Rattle.model.specs.Plan.{Port, ranges_from, ports_from}
 use Rattle.model.specs.Filling.{put}
 use Rattle.model.proofs.Filling.{length_put, put_none, put_put, put_more, set_put}
-use Rattle.numbers.specs.Field.{field_at}
-use Rattle.numbers.proofs.Fields.{field_within}
-use Rattle.plan.specs.declared.PlanStep.{PlanStep}
-use Rattle.plan.specs.declared.PlanStep.TheVariants as step
+use Rattle.numbers.specs.declared.Number.{Number}
+use Rattle.refusals.specs.declared.Refusal.{Refusal}
+use Rattle.plan.specs.declared.PlanContents.{PlanContents}
 use Rattle.plan.specs.declared.PortRead.{PortRead}
-use Rattle.plan.specs.declared.PortRead.TheVariants as port
 use Rattle.plan.specs.Contents.{slots, lows, highs, numbers, all_ranges, starts}
-use Rattle.plan.specs.Written.{standing, Ends, Wide, laid, Tables, one_port, RangesAre, PortIs, PortsAre}
-use Rattle.plan.proofs.Fields.{field_bad, field_got}
-use Rattle.plan.proofs.Told.{Ported, ranges_bad, ranges_got, port_bad, port_got}
-use Rattle.plan.proofs.Ranges.{ends_same}
+use Rattle.plan.specs.Written.{standing, Sized, laid, filled, one_port, FieldGot, FieldIs, RangesGot, RangesAre, PortGot, PortIs, PortsGot, PortsAre}
+use Rattle.plan.proofs.Readings.{stop, on, given, on_field, field_limits}
 
 -- ---- one port
 
-module _ (s : List ℕ) (to : ℕ) (e e' : Ends) (least at : ℕ) where
-  pub number_bad : (k : ℕ) → field_at s at least port_highest ≡ illegible k → PortIs to e e' (port.Bad at) (one_port least s (standing at))
-  number_bad k f = subst (PortIs to e e' (port.Bad at)) (sym (field_bad _ s at least port_highest k f)) refl
+-- what follows a port's number, and its count of ranges
+abbrev counted : List ℕ → ℕ → Stand → Read Port
+counted s p st = after (within 0 ranges_most s st) (λ n st₁. after (ranges_from n zero s st₁) (λ rs st₂. got (record { number = p; ranges = rs }) st₂))
 
-  module _ (number middle : ℕ) (is_number : field_at s at least port_highest ≡ numeral number middle) where
-    pub count_bad : (k : ℕ) → field_at s middle 0 ranges_most ≡ illegible k → PortIs to e e' (port.Bad middle) (one_port least s (standing at))
-    count_bad k f = subst (PortIs to e e' (port.Bad middle)) (sym (field_got _ s at least port_highest number middle is_number ∙ field_bad _ s middle 0 ranges_most k f)) refl
+module _ (s : List ℕ) (to : ℕ) (c c' : PlanContents) (least at : ℕ) where
+  pub number_bad : (e : Refusal) → FieldIs least port_highest (Err e) (within least port_highest s (standing at)) → PortIs to c c' (Err e) (one_port least s (standing at))
+  number_bad e h = stop (PortGot to c c') (counted s) (FieldGot least port_highest) e (within least port_highest s (standing at)) h
 
-    module _ (n begin : ℕ) (is-count : field_at s middle 0 ranges_most ≡ numeral n begin) where
-      abbrev given : Spans → Stand → Read Port
-      given rs st = got (record { number = number; ranges = rs }) st
+  module _ (number : Number) (is_number : FieldIs least port_highest (Ok number) (within least port_highest s (standing at))) where
+    onward : (r : Result PortRead Refusal) → PortIs to c c' r (counted s number.value (standing number.next)) → PortIs to c c' r (one_port least s (standing at))
+    onward r h = on_field (PortGot to c c') (counted s) least port_highest number r (within least port_highest s (standing at)) is_number h
 
-      onward : one_port least s (standing at) ≡ after (ranges_from n zero s (standing begin)) given
-      onward = field_got _ s at least port_highest number middle is_number ∙ field_got _ s middle 0 ranges_most n begin is-count
+    pub count_bad : (e : Refusal) → FieldIs 0 ranges_most (Err e) (within 0 ranges_most s (standing number.next)) → PortIs to c c' (Err e) (one_port least s (standing at))
+    count_bad e h = onward (Err e) (stop (PortGot to c c') _ (FieldGot 0 ranges_most) e (within 0 ranges_most s (standing number.next)) h)
 
-      module _ (r : PlanStep) (are : RangesAre n to e e' r (ranges_from n zero s (standing begin))) where
-        pub one_bad : (p : ℕ) → r ≡ step.Bad p → PortIs to e e' (port.Bad p) (one_port least s (standing at))
-        one_bad p f =
-            let b = ranges_bad n to e e' r p (ranges_from n zero s (standing begin)) are f in
-            subst (PortIs to e e' (port.Bad p)) (sym (onward ∙ ap (λ (m : Read Spans). after m given) b.1)) refl
+    module _ (count : Number) (is-count : FieldIs 0 ranges_most (Ok count) (within 0 ranges_most s (standing number.next))) where
+      pub one_bad : (e : Refusal) → RangesAre count.value to c c' (Err e) (ranges_from count.value 0 s (standing count.next)) → PortIs to c c' (Err e) (one_port least s (standing at))
+      one_bad e h = onward (Err e) (on_field (PortGot to c c') _ 0 ranges_most count (Err e) (within 0 ranges_most s (standing number.next)) is-count
+          (stop (PortGot to c c') _ (RangesGot count.value to c c') e (ranges_from count.value 0 s (standing count.next)) h))
 
-        pub one_got : (next : ℕ) → r ≡ step.Next next → PortIs to e e' (port.Got number n next) (one_port least s (standing at))
-        one_got next f =
-            let b = ranges_got n to e e' r next (ranges_from n zero s (standing begin)) are f in
-            let w = field_within s middle 0 ranges_most n begin is-count in
-            subst (PortIs to e e' (port.Got number n next)) (sym (onward ∙ ap (λ (m : Read Spans). after m given) b.1))
-            (record { answer = ap (λ (k : ℕ). port.Got number k next) (sym b.2); stands = refl; known = (field_within s at least port_highest number middle is_number).1; few = omega (arith, b.2, w.1); writes = b.3 })
+      pub one_got : (next : ℕ) → RangesAre count.value to c c' (Ok next) (ranges_from count.value 0 s (standing count.next))
+          → PortIs to c c' (Ok (record { number = number.value; ranges = count.value; next = next })) (one_port least s (standing at))
+      one_got next h =
+          let known = (field_limits least port_highest number (within least port_highest s (standing at)) is_number).1 in
+          let few = (field_limits 0 ranges_most count (within 0 ranges_most s (standing number.next)) is-count).1 in
+          let r : Result PortRead Refusal = Ok (record { number = number.value; ranges = count.value; next = next }) in
+          onward r (on_field (PortGot to c c') _ 0 ranges_most count r (within 0 ranges_most s (standing number.next)) is-count
+          (on (PortGot to c c') _ (RangesGot count.value to c c') next r (ranges_from count.value 0 s (standing count.next)) h
+          (λ rs st g. record { number = refl; count = g.count; stands = g.stands; known = known; few = few; writes = g.writes })))
 
 -- ---- what is written
 
@@ -62,92 +56,79 @@ put_map : {A : Type 0} (f : A → ℕ) (w : List ℕ) (to : ℕ) (a b : List A) 
 put_map f w to a b h =
     ap (λ (k : ℕ). put (put w to (map f a)) (to + k) (map f b)) (sym (length-map a f)) ∙ put_put w to (map f a) (map f b) h ∙ ap (put w to) (sym (map-append f a b))
 
-laid_laid : (e : Ends) (to : ℕ) (a b : Spans) → Wide e → to ≤ slots → laid (laid e to a) (to + length a) b ≡ laid e to (a ++ b)
-laid_laid e to a b w h = ends_same
-    (put_map (λ (r : Span). r.low) e.low to a b (omega (arith, w.low)))
-    (put_map (λ (r : Span). r.high) e.high to a b (omega (arith, w.high)))
-
-pub wide_laid : (e : Ends) (to : ℕ) (a : Spans) → Wide e → to + length a ≤ slots → Wide (laid e to a)
-wide_laid e to a w h = record {
-  low = length_put e.low to (lows a) (omega (arith, length-map a (λ (r : Span). r.low), w.low)) ∙ w.low;
-  high = length_put e.high to (highs a) (omega (arith, length-map a (λ (r : Span). r.high), w.high)) ∙ w.high;
+sized_laid : (c : PlanContents) (to : ℕ) (a : Spans) → Sized c → to + length a ≤ slots → Sized (laid c to a)
+sized_laid c to a w h = record {
+  number = w.number;
+  first = w.first;
+  low = length_put c.low to (lows a) (omega (arith, length-map a (λ (r : Span). r.low), w.low)) ∙ w.low;
+  high = length_put c.high to (highs a) (omega (arith, length-map a (λ (r : Span). r.high), w.high)) ∙ w.high;
 }
 
--- with at most m ranges for each port: what the first i ports fill
-pub more_room : (m i to k : ℕ) → to ≤ i * m → k ≤ m → to + k ≤ (i + 1) * m
-more_room m i to k h few = rw add-one (omega (arith, suc-mul i m))
-
-pub all_room : (m n i to : ℕ) → i ≤ n → to ≤ i * m → to ≤ n * m
-all_room m n i to le h = omega (arith, mul-le-mul_right m le)
-
-pub room : (m n i to : ℕ) → i < n → to ≤ i * m → to + m ≤ n * m
-room m n i to lt h = all_room m n (i + 1) (to + m) (omega arith) (more_room m i to m h (omega arith))
-
 -- a port that is read leaves the arrays as wide as they were
-pub port_leaves : (to : ℕ) (e e' : Ends) (r : PortRead) (number k next : ℕ) (m : Read Port) → PortIs to e e' r m → r ≡ port.Got number k next → Wide e → to + ranges_most ≤ slots → Wide e' × (k ≤ ranges_most)
-port_leaves to e e' r number k next m is f w h =
-    let b = port_got to e e' r number k next m is f in
-    (subst Wide (sym b.writes) (wide_laid e to b.ranges w (omega (arith, b.count, b.few))), b.few)
+pub port_leaves : (to : ℕ) (c c' : PlanContents) (r : PortRead) (m : Read Port) → PortIs to c c' (Ok r) m → Sized c → to + ranges_most ≤ slots → Sized c' × (r.ranges ≤ ranges_most) × (c'.ports ≡ c.ports)
+port_leaves to c c' r (got p st) h w fits =
+    (subst Sized (sym h.writes) (sized_laid c to p.ranges w (omega (arith, h.count, h.few, fits))), h.few, ap (λ (x : PlanContents). x.ports) h.writes)
+port_leaves to c c' r (refused k p) h w fits = absurd h
 
 -- ---- the ports from port i on
 
-pub after_after : {A B C : Type 0} (m : Read A) (f : A → Stand → Read B) (g : B → Stand → Read C) (h : A → Stand → Read C) → ((a : A) (st : Stand) → h a st ≡ after (f a st) g) → after m h ≡ after (after m f) g
+after_after : {A B C : Type 0} (m : Read A) (f : A → Stand → Read B) (g : B → Stand → Read C) (h : A → Stand → Read C) → ((a : A) (st : Stand) → h a st ≡ after (f a st) g) → after m h ≡ after (after m f) g
 after_after (got a st) f g h q = q a st
 after_after (refused n p) f g h q = refl
 
 abbrev others : List ℕ → ℕ → Port → Stand → Read (List Port)
 others s n p st = after (ports_from n (suc p.number) s st) (λ rest st'. got (p ∷ rest) st')
 
-ports_step : (n least : ℕ) (s : List ℕ) (st : Stand) → ports_from (suc n) least s st ≡ after (one_port least s st) (others s n)
-unfolding ports_from
-ports_step n least s st =
-    after_after (within least port_highest s st) _ (others s n) _ (λ p st₁.
-    after_after (within 0 ranges_most s st₁) _ (others s n) _ (λ c st₂.
-    after_after (ranges_from c zero s st₂) _ (others s n) _ (λ rs st₃. refl)))
+-- port i stored, whose ranges start at `to`
+abbrev stored : PlanContents → ℕ → ℕ → ℕ → PlanContents
+stored c i number to = record { ports = c.ports; number = set c.number i number; first = set c.first i to; low = c.low; high = c.high }
 
-abbrev these : List ℕ → List ℕ → Ends → Tables
-these number first e = record { number = number; first = first; ends = e }
+abbrev pub ended : PlanContents → ℕ → ℕ → PlanContents
+ended c i to = record { ports = c.ports; number = c.number; first = set c.first i to; low = c.low; high = c.high }
 
-tables_same : {a b c d : List ℕ} {e f : Ends} → a ≡ b → c ≡ d → e ≡ f → these a c e ≡ these b d f
-tables_same p q r = λ j. these (p j) (q j) (r j)
-
-module _ (s number first : List ℕ) (e : Ends) (i to : ℕ) (in-first : i < length first) where
-  pub ports_none : (n least at : ℕ) → n ≡ 0 → PortsAre n i to (these number first e) (these number (set first i to) e) (step.Next at) (ports_from n least s (standing at))
+module _ (s : List ℕ) (c : PlanContents) (i to : ℕ) (in-first : i < length c.first) where
+  pub ports_none : (n least at : ℕ) → n ≡ 0 → (last : ℕ) → last ≡ i → PortsAre n i to c (ended c last to) (Ok at) (ports_from n least s (standing at))
   unfolding ports_from
-  ports_none zero least at z = record {
-    answer = refl;
+  ports_none n least at z last e = rw (z, e) (record {
     stands = refl;
     count = refl;
-    writes = tables_same (sym (put_none number i)) (set_put first i to in-first) (ends_same (sym (put_none e.low to)) (sym (put_none e.high to)));
-  }
-  ports_none (suc n) least at z = absurd (omega arith)
+    writes = λ j. record {
+      ports = c.ports;
+      number = sym (put_none c.number i) j;
+      first = set_put c.first i to in-first j;
+      low = sym (put_none c.low to) j;
+      high = sym (put_none c.high to) j;
+    };
+  })
 
-  module _ (e₁ : Ends) (t : Tables) (n m : ℕ) (one_more : n ≡ suc m) (least at : ℕ) (r : PortRead) (is : PortIs to e e₁ r (one_port least s (standing at))) where
-    pub ports_stop : (p : ℕ) → r ≡ port.Bad p → PortsAre n i to (these number first e) t (step.Bad p) (ports_from n least s (standing at))
-    ports_stop p f =
-        let b = port_bad to e e₁ r p (one_port least s (standing at)) is f in
+  module _ (c₁ c' : PlanContents) (n m : ℕ) (one_more : n ≡ suc m) (least at : ℕ) where
+    ports_step : ports_from n least s (standing at) ≡ after (one_port least s (standing at)) (others s m)
+    unfolding ports_from
+    ports_step =
         rw one_more
-        (subst (PortsAre (suc m) i to (these number first e) t (step.Bad p)) (sym (ports_step m least s (standing at) ∙ ap (λ (x : Read Port). after x (others s m)) b.1)) refl)
+        (after_after (within least port_highest s (standing at)) _ (others s m) _ (λ p st₁.
+        after_after (within 0 ranges_most s st₁) _ (others s m) _ (λ k st₂.
+        after_after (ranges_from k zero s st₂) _ (others s m) _ (λ rs st₃. refl))))
 
-    pub ports_more : (q : PlanStep) (port-number k next : ℕ) → r ≡ port.Got port-number k next → i < length number → Wide e → to ≤ slots →
-        PortsAre m (i + 1) (to + k) (these (set number i port-number) (set first i to) e₁) t q (ports_from m (port-number + 1) s (standing next)) →
-        PortsAre n i to (these number first e) t q (ports_from n least s (standing at))
-    ports_more q port-number k next f in-number w fits h =
-        let b = port_got to e e₁ r port-number k next (one_port least s (standing at)) is f in
-        rw one_more
-        (subst (PortsAre (suc m) i to (these number first e) t q) (sym (ports_step m least s (standing at) ∙ ap (λ (x : Read Port). after x (others s m)) b.read))
-        (go b (ports_from m (suc port-number) s (standing next)) (rw (add-one port-number) at h)))
+    pub ports_stop : (e : Refusal) → PortIs to c c₁ (Err e) (one_port least s (standing at)) → PortsAre n i to c c' (Err e) (ports_from n least s (standing at))
+    ports_stop e h = rw ports_step (stop (PortsGot n i to c c') (others s m) (PortGot to c c₁) e (one_port least s (standing at)) h)
+
+    pub ports_more : (p : PortRead) → PortIs to c c₁ (Ok p) (one_port least s (standing at)) → i < length c.number → Sized c → to ≤ slots →
+        (r : Result ℕ Refusal) → PortsAre m (i + 1) (to + p.ranges) (stored c₁ i p.number to) c' r (ports_from m (p.number + 1) s (standing p.next)) →
+        PortsAre n i to c c' r (ports_from n least s (standing at))
+    ports_more p is in-number w fits r h =
+        rw ports_step (on (PortsGot n i to c c') (others s m) (PortGot to c c₁) p r (one_port least s (standing at)) is (λ q st g.
+        rw (g.stands, g.number)
+        (given (PortsGot n i to c c') (λ rest. record { number = p.number; ranges = q.ranges } ∷ rest) (PortsGot m (i + 1) (to + p.ranges) (stored c₁ i p.number to) c') r (ports_from m (suc p.number) s (standing p.next)) (rw (add-one p.number) at h)
+        (λ rest st₁ next f. record { stands = f.stands; count = ap suc f.count ∙ sym one_more; writes = f.writes ∙ filled_more q.ranges rest g.writes g.count }))))
       where
-        go : (b : Ported to e e₁ port-number k next (one_port least s (standing at))) (x : Read (List Port)) →
-            PortsAre m (i + 1) (to + k) (these (set number i port-number) (set first i to) e₁) t q x →
-            PortsAre (suc m) i to (these number first e) t q (after x (λ rest st. got (record { number = port-number; ranges = b.ranges } ∷ rest) st))
-        go b (refused c p) g = g
-        go b (got ps st) g = record {
-          answer = g.answer;
-          stands = g.stands;
-          count = ap suc g.count;
-          writes = g.writes ∙ tables_same
-              (put_more number i port-number (numbers ps) in-number)
-              (put_more first i to (starts (to + k) ps) in-first ∙ ap (λ (c : ℕ). put first i (to ∷ starts (to + c) ps)) (sym b.count))
-              (ap (λ (x : Ends). laid x (to + k) (all_ranges ps)) b.writes ∙ ap (λ (c : ℕ). laid (laid e to b.ranges) (to + c) (all_ranges ps)) (sym b.count) ∙ laid_laid e to b.ranges (all_ranges ps) w fits);
-        }
+        filled_more : (rs : Spans) (ps : List Port) → c₁ ≡ laid c to rs → length rs ≡ p.ranges
+            → filled (stored c₁ i p.number to) (i + 1) (to + p.ranges) ps ≡ filled c i to (record { number = p.number; ranges = rs } ∷ ps)
+        filled_more rs ps wrote is-count =
+            rw (wrote, ← is-count) (λ j. record {
+              ports = c.ports;
+              number = put_more c.number i p.number (numbers ps) in-number j;
+              first = put_more c.first i to (starts (to + length rs) ps) in-first j;
+              low = put_map (λ (x : Span). x.low) c.low to rs (all_ranges ps) (omega (arith, w.low)) j;
+              high = put_map (λ (x : Span). x.high) c.high to rs (all_ranges ps) (omega (arith, w.high)) j;
+            })

@@ -1,57 +1,60 @@
 -- To write the ranges that are left is to write all: one law for each way through a turn of the loop.
-use Prim.Native.Nat.{ℕ, zero, suc, ◌+◌, ◌-◌, ◌<◌}
-use mathlib.Core.List.{List, ◌∷◌}
-use mathlib.Core.Path.{◌≡◌, refl, ap, sym, subst, ◌∙◌}
-use native.Mathlib.Omega.{arith}
-use lib.ListN.{length, set}
+use Rattle.std.specs.Prelude.{Result, Ok, Err}
+use Rattle.std.proofs.Common.{◌≡◌, ◌∙◌, ℕ, suc, ◌+◌, ◌<◌, List, [], ◌∷◌, length, set, refl, ap, sym}
 use Rattle.model.specs.Limits.{greatest}
-use Rattle.model.specs.Reader.{Read, got, refused, after}
-use Rattle.model.specs.Number.{numeral, illegible}
+use Rattle.model.specs.Reader.{Stand, Read, got, after}
+use Rattle.model.specs.Book.{within}
 use Rattle.model.specs.Spans.{Span, Spans}
 use Rattle.model.specs.Plan.{ranges_from}
 use Rattle.model.proofs.Filling.{put_none, put_more}
-use Rattle.numbers.specs.Field.{field_at}
-use Rattle.plan.specs.declared.PlanStep.{PlanStep}
-use Rattle.plan.specs.declared.PlanStep.TheVariants.{Next, Bad}
+use Rattle.numbers.specs.declared.Number.{Number}
+use Rattle.refusals.specs.declared.Refusal.{Refusal}
+use Rattle.plan.specs.declared.PlanContents.{PlanContents}
 use Rattle.plan.specs.Contents.{lows, highs}
-use Rattle.plan.specs.Written.{standing, Ends, ends, RangesAre}
-use Rattle.plan.proofs.Fields.{field_bad, field_got}
-
-pub ends_same : {a b c d : List ℕ} → a ≡ b → c ≡ d → ends a c ≡ ends b d
-ends_same p q = λ j. ends (p j) (q j)
+use Rattle.plan.specs.Written.{standing, laid, FieldGot, FieldIs, RangesGot, RangesAre}
+use Rattle.plan.proofs.Readings.{stop, given, on_field}
 
 abbrev span : ℕ → ℕ → Span
 span low high = record { low = low; high = high }
 
-module _ (s low high : List ℕ) (i : ℕ) where
-  pub ranges_none : (n least at : ℕ) → n ≡ 0 → RangesAre n i (ends low high) (ends low high) (Next at) (ranges_from n least s (standing at))
+-- one range stored
+abbrev stored : PlanContents → ℕ → ℕ → ℕ → PlanContents
+stored c i low high = record { ports = c.ports; number = c.number; first = c.first; low = set c.low i low; high = set c.high i high }
+
+pub laid_none : (c : PlanContents) (i : ℕ) → c ≡ laid c i []
+laid_none c i = λ j. record { ports = c.ports; number = c.number; first = c.first; low = sym (put_none c.low i) j; high = sym (put_none c.high i) j }
+
+laid_more : (c : PlanContents) (i low high : ℕ) (rs : Spans) → i < length c.low → i < length c.high → laid (stored c i low high) (i + 1) rs ≡ laid c i (span low high ∷ rs)
+laid_more c i low high rs p q = λ j. record { ports = c.ports; number = c.number; first = c.first; low = put_more c.low i low (lows rs) p j; high = put_more c.high i high (highs rs) q j }
+
+-- what follows the low of a range, with m ranges behind it
+abbrev others : List ℕ → ℕ → ℕ → Stand → Read Spans
+others s m low st = after (within low greatest s st) (λ high st₁. after (ranges_from m (high + 2) s st₁) (λ rest st₂. got (span low high ∷ rest) st₂))
+
+module _ (s : List ℕ) (c : PlanContents) (i : ℕ) where
+  pub ranges_none : (n least at : ℕ) → n ≡ 0 → RangesAre n i c c (Ok at) (ranges_from n least s (standing at))
   unfolding ranges_from
-  ranges_none zero least at e = record { answer = refl; stands = refl; count = refl; writes = ends_same (sym (put_none low i)) (sym (put_none high i)) }
-  ranges_none (suc n) least at e = absurd (omega arith)
+  ranges_none n least at e = rw e (record { stands = refl; count = refl; writes = laid_none c i })
 
-  module _ (e' : Ends) (least at : ℕ) where
-    pub ranges_low : (n k : ℕ) → (n ≡ 0 → ⊥) → field_at s at least greatest ≡ illegible k → RangesAre n i (ends low high) e' (Bad at) (ranges_from n least s (standing at))
+  module _ (c' : PlanContents) (n m : ℕ) (one_more : n ≡ suc m) (least at : ℕ) where
+    ranges_step : ranges_from n least s (standing at) ≡ after (within least greatest s (standing at)) (others s m)
     unfolding ranges_from
-    ranges_low zero k some e = absurd (some refl)
-    ranges_low (suc n) k some e = subst (RangesAre (suc n) i (ends low high) e' (Bad at)) (sym (field_bad _ s at least greatest k e)) refl
+    ranges_step = rw one_more
 
-    module _ (from middle : ℕ) (is-low : field_at s at least greatest ≡ numeral from middle) where
-      pub ranges_high : (n k : ℕ) → (n ≡ 0 → ⊥) → field_at s middle from greatest ≡ illegible k → RangesAre n i (ends low high) e' (Bad middle) (ranges_from n least s (standing at))
-      unfolding ranges_from
-      ranges_high zero k some e = absurd (some refl)
-      ranges_high (suc n) k some e = subst (RangesAre (suc n) i (ends low high) e' (Bad middle)) (sym (field_got _ s at least greatest from middle is-low ∙ field_bad _ s middle from greatest k e)) refl
+    pub ranges_low : (e : Refusal) → FieldIs least greatest (Err e) (within least greatest s (standing at)) → RangesAre n i c c' (Err e) (ranges_from n least s (standing at))
+    ranges_low e h = rw ranges_step (stop (RangesGot n i c c') (others s m) (FieldGot least greatest) e (within least greatest s (standing at)) h)
+
+    module _ (low : Number) (is_low : FieldIs least greatest (Ok low) (within least greatest s (standing at))) where
+      pub ranges_high : (e : Refusal) → FieldIs low.value greatest (Err e) (within low.value greatest s (standing low.next)) → RangesAre n i c c' (Err e) (ranges_from n least s (standing at))
+      ranges_high e h = rw ranges_step (on_field (RangesGot n i c c') (others s m) least greatest low (Err e) (within least greatest s (standing at)) is_low
+          (stop (RangesGot n i c c') _ (FieldGot low.value greatest) e (within low.value greatest s (standing low.next)) h))
 
       -- one range more stands in slot i
-      pub ranges_more : (r : PlanStep) (n up next : ℕ) → (n ≡ 0 → ⊥) → field_at s middle from greatest ≡ numeral up next → i < length low → i < length high →
-          RangesAre (n - 1) (i + 1) (ends (set low i from) (set high i up)) e' r (ranges_from (n - 1) (up + 2) s (standing next)) →
-          RangesAre n i (ends low high) e' r (ranges_from n least s (standing at))
-      unfolding ranges_from
-      ranges_more r zero up next some is-high p q h = absurd (some refl)
-      ranges_more r (suc n) up next some is-high p q h =
-          let less : suc n - 1 ≡ n = omega arith in
-          subst (RangesAre (suc n) i (ends low high) e' r) (sym (field_got _ s at least greatest from middle is-low ∙ field_got _ s middle from greatest up next is-high))
-          (go (ranges_from n (up + 2) s (standing next)) (subst (λ (m : ℕ). RangesAre m (i + 1) (ends (set low i from) (set high i up)) e' r (ranges_from m (up + 2) s (standing next))) less h))
-        where
-          go : (m : Read Spans) → RangesAre n (i + 1) (ends (set low i from) (set high i up)) e' r m → RangesAre (suc n) i (ends low high) e' r (after m (λ rest st. got (span from up ∷ rest) st))
-          go (got rs st) g = record { answer = g.answer; stands = g.stands; count = ap suc g.count; writes = g.writes ∙ ends_same (put_more low i from (lows rs) p) (put_more high i up (highs rs) q) }
-          go (refused k place) g = g
+      pub ranges_more : (high : Number) → FieldIs low.value greatest (Ok high) (within low.value greatest s (standing low.next)) → i < length c.low → i < length c.high →
+          (r : Result ℕ Refusal) → RangesAre m (i + 1) (stored c i low.value high.value) c' r (ranges_from m (high.value + 2) s (standing high.next)) →
+          RangesAre n i c c' r (ranges_from n least s (standing at))
+      ranges_more high is-high p q r h =
+          rw ranges_step (on_field (RangesGot n i c c') (others s m) least greatest low r (within least greatest s (standing at)) is_low
+          (on_field (RangesGot n i c c') _ low.value greatest high r (within low.value greatest s (standing low.next)) is-high
+          (given (RangesGot n i c c') (λ rest. span low.value high.value ∷ rest) (RangesGot m (i + 1) (stored c i low.value high.value) c') r (ranges_from m (high.value + 2) s (standing high.next)) h
+          (λ rest st next g. record { stands = g.stands; count = ap suc g.count ∙ sym one_more; writes = g.writes ∙ laid_more c i low.value high.value rest p q }))))

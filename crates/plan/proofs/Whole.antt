@@ -1,54 +1,34 @@
 -- The edition and the count, and the whole plan: one law for each way through the code.
-use Prim.Native.Nat.{ℕ, zero, suc, ◌≤◌, ◌<◌}
-use mathlib.Core.List.{List}
-use mathlib.Core.Path.{◌≡◌, refl, ap, sym, subst, ◌∙◌}
+use Rattle.std.specs.Prelude.{Result, Ok, Err}
+use Rattle.std.proofs.Common.{◌≡◌, ◌∙◌, ℕ, zero, suc, ◌≤◌, ◌<◌, List, length, refl, ap, sym}
 use borrow.Author.Tests.{le-leb, lt-leb, eq-eqb, ne_eqb}
-use lib.ListN.{length, replicate, length-replicate}
+use lib.ListN.{replicate, length-replicate}
 use Rattle.model.specs.Limits.{plan_bytes, ports_most}
+use Rattle.model.specs.Answer as answer
+use Rattle.model.specs.Answer.{fine}
 use Rattle.model.specs.Reader.{Stand, Read, got, refused, after}
-use Rattle.model.specs.Number.{numeral, illegible}
 use Rattle.model.specs.Book.{within, end, start}
 use Rattle.model.specs.Plan.{Port, ports_from, whole_plan, as_eleven, plan_of}
 use Rattle.model.proofs.Filling.{put_padded}
-use Rattle.numbers.specs.Field.{field_at}
-use Rattle.numbers.proofs.Fields.{field_within}
-use Rattle.plan.specs.declared.PlanAnswer.{PlanAnswer}
-use Rattle.plan.specs.declared.PlanRead.TheVariants.{Fine}
-use Rattle.plan.specs.declared.PlanStep.{PlanStep}
-use Rattle.plan.specs.declared.PlanStep.TheVariants as step
-use Rattle.plan.specs.declared.CountRead.{CountRead}
-use Rattle.plan.specs.declared.CountRead.TheVariants as count
-use Rattle.plan.specs.Contents.{slots, lows, highs, numbers, all_ranges, starts, contents_of, refused_plan, plan_answer}
-use Rattle.plan.specs.Written.{standing, Tables, tables, Sized, port_count, CountIs, PortsAre}
-use Rattle.plan.proofs.Fields.{field_bad, field_got}
-use Rattle.plan.proofs.Told.{count_bad, count_got, ports_bad, ports_got}
-use Rattle.plan.proofs.Ports.{after_after}
+use Rattle.numbers.specs.declared.Number.{Number}
+use Rattle.refusals.specs.declared.Refusal.{Refusal}
+use Rattle.refusals.specs.declared.Fault.TheVariants.{BadPlan}
+use Rattle.refusals.specs.Refusals.{number_of, refusal_at, told}
+use Rattle.plan.specs.declared.PlanContents.{PlanContents}
+use Rattle.plan.specs.Contents.{slots, lows, highs, numbers, all_ranges, starts, contents_of, plan_answer}
+use Rattle.plan.specs.Written.{standing, Sized, Reads, FieldGot, FieldIs, PortsGot, PortsAre}
+use Rattle.plan.proofs.Readings.{stop, on, on_field}
 
--- ---- the edition and the count of ports
+-- n ports, all slots 0
+abbrev pub empty : ℕ → PlanContents
+empty n = record { ports = n; number = replicate ports_most 0; first = replicate (suc ports_most) 0; low = replicate slots 0; high = replicate slots 0 }
 
-module _ (s : List ℕ) where
-  pub edition_bad : (k : ℕ) → field_at s 0 1 1 ≡ illegible k → CountIs (count.Bad 0) (port_count s (standing 0))
-  edition_bad k f = subst (CountIs (count.Bad 0)) (sym (field_bad _ s 0 1 1 k f)) refl
-
-  module _ (v at : ℕ) (is-edition : field_at s 0 1 1 ≡ numeral v at) where
-    pub many_bad : (k : ℕ) → field_at s at 0 ports_most ≡ illegible k → CountIs (count.Bad at) (port_count s (standing 0))
-    many_bad k f = subst (CountIs (count.Bad at)) (sym (field_got _ s 0 1 1 v at is-edition ∙ field_bad _ s at 0 ports_most k f)) refl
-
-    pub many_got : (n next : ℕ) → field_at s at 0 ports_most ≡ numeral n next → CountIs (count.Got n next) (port_count s (standing 0))
-    many_got n next f = subst (CountIs (count.Got n next)) (sym (field_got _ s 0 1 1 v at is-edition ∙ field_got _ s at 0 ports_most n next f))
-        (record { answer = refl; stands = refl; few = (field_within s at 0 ports_most n next f).1 })
-
--- ---- the whole
-
--- four arrays of zeros
-abbrev pub empty : Tables
-empty = tables (replicate ports_most 0) (replicate (suc ports_most) 0) (replicate slots 0) (replicate slots 0)
-
-pub empty_sized : Sized empty
-empty_sized = record {
+pub empty_sized : (n : ℕ) → Sized (empty n)
+empty_sized n = record {
   number = length-replicate {A = ℕ} ports_most 0;
   first = length-replicate {A = ℕ} (suc ports_most) 0;
-  wide = record { low = length-replicate {A = ℕ} slots 0; high = length-replicate {A = ℕ} slots 0 };
+  low = length-replicate {A = ℕ} slots 0;
+  high = length-replicate {A = ℕ} slots 0;
 }
 
 abbrev ended : List ℕ → List Port → Stand → Read (List Port)
@@ -57,55 +37,55 @@ ended s ps st = after (end s st) (λ e st'. got ps st')
 abbrev counted : List ℕ → ℕ → Stand → Read (List Port)
 counted s n st = after (ports_from n zero s st) (ended s)
 
+-- the contents are those of the plan
+abbrev Whole : List Port → Stand → PlanContents → Type 0
+Whole ps st c = c ≡ contents_of ps
+
 module _ (s : List ℕ) where
-  pub plan_long : plan_bytes < length s → refused_plan 11 0 ≡ plan_answer (plan_of s)
+  pub plan_long : plan_bytes < length s → answer.refused 11 0 ≡ plan_answer (plan_of s)
   unfolding plan_of
   plan_long h = rw lt-leb
 
   module _ (short : length s ≤ plan_bytes) where
-    whole_is : (m : Read (List Port)) → whole_plan s start ≡ m → plan_answer (as_eleven m) ≡ plan_answer (plan_of s)
+    whole_is : (r : Result PlanContents Refusal) → Reads Whole r (whole_plan s start) → told r ≡ plan_answer (plan_of s)
     unfolding plan_of
-    whole_is m e = rw (le-leb (length s) plan_bytes short, e)
+    whole_is r h = rw (le-leb (length s) plan_bytes short) (go r (whole_plan s start) h)
+      where
+        go : (r : Result PlanContents Refusal) (m : Read (List Port)) → Reads Whole r m → told r ≡ plan_answer (as_eleven m)
+        go (Ok c) (got ps st) g = ap fine g
+        go (Ok c) (refused k p) g = absurd g
+        go (Err e) (got ps st) g = absurd g
+        go (Err e) (refused k p) g = ap (λ (x : Refusal). answer.refused (number_of x.fault) x.place) g
 
-    whole_step : whole_plan s start ≡ after (port_count s (standing 0)) (counted s)
-    whole_step =
-        after_after (within 1 1 s start) _ (counted s) _ (λ e st.
-        after_after (within 0 ports_most s st) _ (counted s) _ (λ n st₁. refl))
+    pub edition_bad : (e : Refusal) → FieldIs 1 1 (Err e) (within 1 1 s (standing 0)) → told (Err e) ≡ plan_answer (plan_of s)
+    edition_bad e h = whole_is (Err e) (stop Whole _ (FieldGot 1 1) e (within 1 1 s (standing 0)) h)
 
-    module _ (r : CountRead) (is : CountIs r (port_count s (standing 0))) where
-      pub head_bad : (p : ℕ) → r ≡ count.Bad p → refused_plan 11 p ≡ plan_answer (plan_of s)
-      head_bad p f =
-          let b = count_bad r p (port_count s (standing 0)) is f in
-          whole_is (refused b.0 p) (whole_step ∙ ap (λ (m : Read ℕ). after m (counted s)) b.1)
+    module _ (edition : Number) (is-edition : FieldIs 1 1 (Ok edition) (within 1 1 s (standing 0))) where
+      pub many_bad : (e : Refusal) → FieldIs 0 ports_most (Err e) (within 0 ports_most s (standing edition.next)) → told (Err e) ≡ plan_answer (plan_of s)
+      many_bad e h = whole_is (Err e) (on_field Whole _ 1 1 edition (Err e) (within 1 1 s (standing 0)) is-edition
+          (stop Whole (counted s) (FieldGot 0 ports_most) e (within 0 ports_most s (standing edition.next)) h))
 
-      module _ (n at : ℕ) (f : r ≡ count.Got n at) (t : Tables) (q : PlanStep) (are : PortsAre n 0 0 empty t q (ports_from n zero s (standing at))) where
-        counted_is : whole_plan s start ≡ counted s n (standing at)
-        counted_is = whole_step ∙ ap (λ (m : Read ℕ). after m (counted s)) (count_got r n at (port_count s (standing 0)) is f).0
+      module _ (n : Number) (is-count : FieldIs 0 ports_most (Ok n) (within 0 ports_most s (standing edition.next))) where
+        body_is : (r : Result PlanContents Refusal) → Reads Whole r (counted s n.value (standing n.next)) → told r ≡ plan_answer (plan_of s)
+        body_is r h = whole_is r (on_field Whole _ 1 1 edition r (within 1 1 s (standing 0)) is-edition
+            (on_field Whole (counted s) 0 ports_most n r (within 0 ports_most s (standing edition.next)) is-count h))
 
-        pub body_bad : (p : ℕ) → q ≡ step.Bad p → refused_plan 11 p ≡ plan_answer (plan_of s)
-        body_bad p g =
-            let b = ports_bad n 0 0 empty t q p (ports_from n zero s (standing at)) are g in
-            whole_is (refused b.0 p) (counted_is ∙ ap (λ (m : Read (List Port)). after m (ended s)) b.1)
+        module _ (c : PlanContents) where
+          pub body_bad : (e : Refusal) → PortsAre n.value 0 0 (empty n.value) c (Err e) (ports_from n.value 0 s (standing n.next)) → told {A = PlanContents} (Err e) ≡ plan_answer (plan_of s)
+          body_bad e h = body_is (Err e) (stop Whole (ended s) (PortsGot n.value 0 0 (empty n.value) c) e (ports_from n.value 0 s (standing n.next)) h)
 
-        pub extra : (stop : ℕ) → q ≡ step.Next stop → (stop ≡ length s → ⊥) → refused_plan 11 stop ≡ plan_answer (plan_of s)
-        extra stop g more =
-            let b = ports_got n 0 0 empty t q stop (ports_from n zero s (standing at)) are g in
-            whole_is (refused 8 stop) (counted_is ∙ ap (λ (m : Read (List Port)). after m (ended s)) b.1 ∙ rw (ne_eqb stop (length s) more))
+          module _ (stops : ℕ) (are : PortsAre n.value 0 0 (empty n.value) c (Ok stops) (ports_from n.value 0 s (standing n.next))) where
+            pub extra : (stops ≡ length s → ⊥) → told {A = PlanContents} (Err (refusal_at BadPlan stops)) ≡ plan_answer (plan_of s)
+            extra more = body_is (Err (refusal_at BadPlan stops)) (on Whole (ended s) (PortsGot n.value 0 0 (empty n.value) c) stops (Err (refusal_at BadPlan stops)) (ports_from n.value 0 s (standing n.next)) are
+                (λ ps st g. rw (g.stands, ne_eqb stops (length s) more) refl))
 
-        pub fine_plan : (stop : ℕ) → q ≡ step.Next stop → stop ≡ length s →
-            ◌≡◌ {A = PlanAnswer} (record { read = Fine; contents = record { ports = n; number = t.number; first = t.first; low = t.ends.low; high = t.ends.high } }) (plan_answer (plan_of s))
-        unfolding contents_of
-        fine_plan stop g all =
-            let b = ports_got n 0 0 empty t q stop (ports_from n zero s (standing at)) are g in
-            (λ j. record { read = Fine; contents = record { ports = sym b.2 j; number = (b.3 j).number; first = (b.3 j).first; low = (b.3 j).ends.low; high = (b.3 j).ends.high } })
-            ∙ (λ j. record {
-              read = Fine;
-              contents = record {
-                ports = length b.0;
-                number = put_padded ports_most (numbers b.0) j;
-                first = put_padded (suc ports_most) (starts 0 b.0) j;
-                low = put_padded slots (lows (all_ranges b.0)) j;
-                high = put_padded slots (highs (all_ranges b.0)) j;
-              };
-            })
-            ∙ whole_is (got b.0 (standing stop)) (counted_is ∙ ap (λ (m : Read (List Port)). after m (ended s)) b.1 ∙ rw (eq-eqb stop (length s) all))
+            pub fine_plan : stops ≡ length s → told (Ok c) ≡ plan_answer (plan_of s)
+            unfolding contents_of
+            fine_plan all = body_is (Ok c) (on Whole (ended s) (PortsGot n.value 0 0 (empty n.value) c) stops (Ok c) (ports_from n.value 0 s (standing n.next)) are
+                (λ ps st g. rw (g.stands, eq-eqb stops (length s) all) (g.writes ∙ (λ j. record {
+                  ports = sym g.count j;
+                  number = put_padded ports_most (numbers ps) j;
+                  first = put_padded (suc ports_most) (starts 0 ps) j;
+                  low = put_padded slots (lows (all_ranges ps)) j;
+                  high = put_padded slots (highs (all_ranges ps)) j;
+                }))))

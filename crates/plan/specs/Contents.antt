@@ -1,16 +1,12 @@
 -- A plan's contents as the code holds them, and the asked port in them.
-use Rattle.std.specs.Prelude.{ℕ, zero, suc, ◌+◌, ◌-◌, ◌*◌, ◌≤◌, ◌<◌, ◌≡◌, List, [], ◌∷◌, ◌++◌, map, length, get_or, replicate, eqb}
+use Rattle.std.specs.Prelude.{ℕ, zero, suc, ◌+◌, ◌-◌, ◌*◌, ◌≤◌, ◌<◌, ◌≡◌, List, [], ◌∷◌, ◌++◌, map, length, get_or, eqb, Option, Some, None}
 use Rattle.model.specs.Limits.{greatest, port_highest, ports_most, ranges_most}
 use Rattle.model.specs.Answer as answer
 use Rattle.model.specs.Answer.{Answer, fine, when}
 use Rattle.model.specs.Spans.{Span, Spans, Canonical}
 use Rattle.model.specs.Plan.{Port, ranges_of}
 use Rattle.model.specs.Filling.{padded}
-use Rattle.plan.specs.declared.PlanRead.TheVariants.{Fine, Refused}
 use Rattle.plan.specs.declared.PlanContents.{PlanContents}
-use Rattle.plan.specs.declared.PlanAnswer.{PlanAnswer}
-use Rattle.plan.specs.declared.Asked.{Asked}
-use Rattle.plan.specs.declared.Asked.TheVariants.{At, Missing}
 
 -- room for the ranges of every port
 abbrev pub slots : ℕ
@@ -44,22 +40,10 @@ contents_of ps = record {
   high = padded slots (highs (all_ranges ps));
 }
 
-abbrev pub no_contents : PlanContents
-no_contents = record {
-  ports = 0;
-  number = replicate ports_most 0;
-  first = replicate (suc ports_most) 0;
-  low = replicate slots 0;
-  high = replicate slots 0;
-}
-
-abbrev pub refused_plan : ℕ → ℕ → PlanAnswer
-refused_plan n p = record { read = Refused n p; contents = no_contents }
-
 -- WHAT READING A PLAN ANSWERS
-abbrev pub plan_answer : Answer (List Port) → PlanAnswer
-plan_answer (fine ps) = record { read = Fine; contents = contents_of ps }
-plan_answer (answer.refused n p) = refused_plan n p
+abbrev pub plan_answer : Answer (List Port) → Answer PlanContents
+plan_answer (fine ps) = fine (contents_of ps)
+plan_answer (answer.refused n p) = answer.refused n p
 
 -- n ranges, the first in slot i
 abbrev pub spans_from : List ℕ → List ℕ → ℕ → ℕ → Spans
@@ -76,14 +60,14 @@ ports_at c i zero = []
 ports_at c i (suc n) = record { number = get_or c.number i 0; ranges = ranges_at c i } ∷ ports_at c (suc i) n
 
 -- the first of n ports from port i on that has the asked number
-unfoldable pub asked : List ℕ → ℕ → ℕ → ℕ → Asked
-asked number port i zero = Missing
-asked number port i (suc n) = let r = asked number port (suc i) n in when (eqb (get_or number i 0) port) (At i) r
+unfoldable pub asked : List ℕ → ℕ → ℕ → ℕ → Option ℕ
+asked number port i zero = None
+asked number port i (suc n) = let r = asked number port (suc i) n in when (eqb (get_or number i 0) port) (Some i) r
 
 -- what is told of the asked port: its ranges, or refusal 12
-abbrev pub ranges_asked : PlanContents → ℕ → Asked → Answer Spans
-ranges_asked c port (At i) = fine (ranges_at c i)
-ranges_asked c port Missing = answer.refused 12 port
+abbrev pub ranges_asked : PlanContents → ℕ → Option ℕ → Answer Spans
+ranges_asked c port (Some i) = fine (ranges_at c i)
+ranges_asked c port None = answer.refused 12 port
 
 -- what walking over the contents of a read plan relies on
 pub record PlanShape (c : PlanContents) : Type 0 where
@@ -99,4 +83,4 @@ pub record PlanCharted (ps : List Port) (c : PlanContents) : Type 0 where
   pub shape : PlanShape c
   pub ports : ports_at c 0 c.ports ≡ ps
   pub ranges : (port : ℕ) → ranges_of port ps ≡ ranges_asked c port (asked c.number port 0 c.ports)
-  pub own : (i : ℕ) → i < c.ports → asked c.number (get_or c.number i 0) 0 c.ports ≡ At i
+  pub own : (i : ℕ) → i < c.ports → asked c.number (get_or c.number i 0) 0 c.ports ≡ Some i

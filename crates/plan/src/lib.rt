@@ -3,11 +3,14 @@
 
 ghost use Rattle.std.specs.Prelude.{◌≡◌, ◌+◌, ◌≤◌};
 ghost use Rattle.model.specs.Limits.{ports_most, ranges_most};
+ghost use Rattle.model.specs.Book.{within};
 ghost use Rattle.model.specs.Plan.{plan_of, ports_from, ranges_from};
-ghost use Rattle.plan.specs.Contents.{plan_answer, slots, refused_plan, asked};
-ghost use Rattle.plan.specs.Written.{standing, ends, tables, Wide, Sized, port_count, one_port, CountIs, RangesAre, PortIs, PortsAre};
+ghost use Rattle.refusals.specs.Refusals.{told};
+ghost use Rattle.plan.specs.Contents.{plan_answer, slots, asked};
+ghost use Rattle.plan.specs.Written.{standing, one_port, Sized, FieldIs, RangesAre, PortIs, PortsAre};
 
-use numbers::{LARGEST, NumberRead, read_field};
+use numbers::{LARGEST, Number, read_field};
+use refusals::{Fault, Refusal};
 
 // The ports of a plan, at most; one more, for where the last port's ranges end; the ranges of all ports, at most.
 pub const PORTS: usize = 32;
@@ -26,15 +29,9 @@ const PORTS_MOST: u64 = PORTS as u64;
 
 const RANGES_MOST: u64 = 64;
 
-#[derive(Clone, Copy)]
-pub enum PlanRead {
-    Fine,
-    Refused(u32, usize),
-}
-
 // A plan's ports in order: the number of each, and its ranges, which are those from first[i] up to, not with, first[i + 1]. Slots that
-// are not used are 0, and of a refused plan all are.
-#[derive(Clone, Copy)]
+// are not used are 0. The ends are two arrays, as what walks over the addresses outside takes them.
+#[derive(Drop)]
 pub struct PlanContents {
     pub ports: usize,
     pub number: [u32; PORTS],
@@ -43,81 +40,44 @@ pub struct PlanContents {
     pub high: [u32; RANGES],
 }
 
-#[derive(Drop)]
-pub struct PlanAnswer {
-    pub read: PlanRead,
-    pub contents: PlanContents,
-}
-
-// Where in the contents the asked port stands.
-#[derive(Clone, Copy)]
-pub enum Asked {
-    At(usize),
-    Missing,
-}
-
-// The place after what was read, or that of the first bad number. Which fault it is does not matter: all are refusal 11.
-#[derive(Clone, Copy)]
-enum PlanStep {
-    Next(usize),
-    Bad(usize),
-}
-
 // A port's number, its count of ranges and the place after them.
-#[derive(Clone, Copy)]
-enum PortRead {
-    Got(u32, u32, usize),
-    Bad(usize),
+#[derive(Clone, Copy, PartialEq, Eq)]
+struct PortRead {
+    number: u32,
+    ranges: u32,
+    next: usize,
 }
 
-// The count of ports and the place after it.
-#[derive(Clone, Copy)]
-enum CountRead {
-    Got(u32, usize),
-    Bad(usize),
+// Every fault of a plan is refusal 11, at the first bad number.
+fn plan_field(s: &[u8], at: usize, low: u64, high: u64) -> Result<Number, Refusal>
+    ensures { FieldIs low high result (within low high s.now (standing at)) }
+{
+    read_field(s, at, low, high).map_err(|_| Fault::BadPlan.at(at))
 }
 
-// The ranges of one port, into the slots from `to` on.
+// The ranges of one port, into the slots from `to` on; answers the place after them.
 fn read_ranges(
     s: &[u8],
     at: usize,
     count: u32,
     to: usize,
-    low: &mut [u32; RANGES],
-    high: &mut [u32; RANGES],
-) -> PlanStep
-    requires { Wide (ends low.old high.old) × (to + count ≤ slots) }
-    ensures { RangesAre count to (ends low.old high.old) (ends low.new high.new) result (ranges_from count 0 s.now (standing at)) }
+    contents: &mut PlanContents,
+) -> Result<usize, Refusal>
+    requires { Sized contents.old × (to + count ≤ slots) }
+    ensures { RangesAre count to contents.old contents.new result (ranges_from count 0 s.now (standing at)) }
 {
     let mut next = at;
     let mut least: u64 = 0;
-    let mut left = count;
-    let mut i = to;
-    while left != 0 {
-        match read_field(s, next, least, GREATEST) {
-            NumberRead::Refused(_) => {
-                return PlanStep::Bad(next);
-            }
-            NumberRead::Got(from, middle) => {
-                let lowest = from as u64;
-                match read_field(s, middle, lowest, GREATEST) {
-                    NumberRead::Refused(_) => {
-                        return PlanStep::Bad(middle);
-                    }
-                    NumberRead::Got(up, after) => {
-                        low[i] = from;
-                        high[i] = up;
-                        // one address at least stays between two ranges
-                        least = up as u64 + 2;
-                        next = after;
-                        i = i + 1;
-                        left = left - 1;
-                    }
-                }
-            }
-        }
+    for i in to..to + count as usize {
+        let low = plan_field(s, next, least, GREATEST)?;
+        let high = plan_field(s, low.next, u64::from(low.value), GREATEST)?;
+        contents.low[i] = low.value;
+        contents.high[i] = high.value;
+        // one address at least stays between two ranges
+        least = u64::from(high.value) + 2;
+        next = high.next;
     }
-    PlanStep::Next(next)
+    Ok(next)
 }
 
 fn read_port(
@@ -125,144 +85,71 @@ fn read_port(
     at: usize,
     least: u64,
     to: usize,
-    low: &mut [u32; RANGES],
-    high: &mut [u32; RANGES],
-) -> PortRead
-    requires { Wide (ends low.old high.old) × (to + ranges_most ≤ slots) }
-    ensures { PortIs to (ends low.old high.old) (ends low.new high.new) result (one_port least s.now (standing at)) }
+    contents: &mut PlanContents,
+) -> Result<PortRead, Refusal>
+    requires { Sized contents.old × (to + ranges_most ≤ slots) }
+    ensures { PortIs to contents.old contents.new result (one_port least s.now (standing at)) }
 {
-    match read_field(s, at, least, PORT_HIGHEST) {
-        NumberRead::Refused(_) => PortRead::Bad(at),
-        NumberRead::Got(number, middle) => match read_field(s, middle, 0, RANGES_MOST) {
-            NumberRead::Refused(_) => PortRead::Bad(middle),
-            NumberRead::Got(count, begin) => match read_ranges(s, begin, count, to, low, high) {
-                PlanStep::Bad(place) => PortRead::Bad(place),
-                PlanStep::Next(next) => PortRead::Got(number, count, next),
-            },
-        },
-    }
+    let number = plan_field(s, at, least, PORT_HIGHEST)?;
+    let count = plan_field(s, number.next, 0, RANGES_MOST)?;
+    let next = read_ranges(s, count.next, count.value, to, contents)?;
+    Ok(PortRead {
+        number: number.value,
+        ranges: count.value,
+        next,
+    })
 }
 
-fn read_ports(
-    s: &[u8],
-    at: usize,
-    count: usize,
-    number: &mut [u32; PORTS],
-    first: &mut [u32; STARTS],
-    low: &mut [u32; RANGES],
-    high: &mut [u32; RANGES],
-) -> PlanStep
-    requires { Sized (tables number.old first.old low.old high.old) × (count ≤ ports_most) }
-    ensures { PortsAre count 0 0 (tables number.old first.old low.old high.old) (tables number.new first.new low.new high.new) result (ports_from count 0 s.now (standing at)) }
+// As many ports as the contents say; answers the place after them.
+fn read_ports(s: &[u8], at: usize, contents: &mut PlanContents) -> Result<usize, Refusal>
+    requires { Sized contents.old × (contents.old.ports ≤ ports_most) }
+    ensures { PortsAre contents.old.ports 0 0 contents.old contents.new result (ports_from contents.old.ports 0 s.now (standing at)) }
 {
     let mut next = at;
     let mut least: u64 = 0;
-    let mut i: usize = 0;
     let mut to: usize = 0;
-    while i < count {
-        match read_port(s, next, least, to, low, high) {
-            PortRead::Bad(place) => {
-                return PlanStep::Bad(place);
-            }
-            PortRead::Got(port, ranges, after) => {
-                number[i] = port;
-                first[i] = to as u32;
-                least = port as u64 + 1;
-                next = after;
-                i = i + 1;
-                to = to + ranges as usize;
-            }
-        }
+    for i in 0..contents.ports {
+        let port = read_port(s, next, least, to, contents)?;
+        contents.number[i] = port.number;
+        contents.first[i] = to as u32;
+        least = u64::from(port.number) + 1;
+        to += port.ranges as usize;
+        next = port.next;
     }
-    first[i] = to as u32;
-    PlanStep::Next(next)
+    contents.first[contents.ports] = to as u32;
+    Ok(next)
 }
 
-// The edition, and how many ports follow.
-fn read_count(s: &[u8]) -> CountRead
-    ensures { CountIs result (port_count s.now (standing 0)) }
-{
-    match read_field(s, 0, 1, 1) {
-        NumberRead::Refused(_) => CountRead::Bad(0),
-        NumberRead::Got(_, at) => match read_field(s, at, 0, PORTS_MOST) {
-            NumberRead::Refused(_) => CountRead::Bad(at),
-            NumberRead::Got(count, next) => CountRead::Got(count, next),
-        },
-    }
-}
-
-fn refused(place: usize) -> PlanAnswer
-    ensures { result ≡ refused_plan 11 place }
-{
-    let contents = PlanContents {
-        ports: 0,
-        number: [0u32; PORTS],
-        first: [0u32; STARTS],
-        low: [0u32; RANGES],
-        high: [0u32; RANGES],
-    };
-    PlanAnswer {
-        read: PlanRead::Refused(11, place),
-        contents: contents,
-    }
-}
-
-pub fn read_plan(s: &[u8]) -> PlanAnswer
-    ensures { result ≡ plan_answer (plan_of s.now) }
+// Not inlined: a caller's frame would hold the contents once more, and the stack is small.
+#[inline(never)]
+pub fn read_plan(s: &[u8]) -> Result<PlanContents, Refusal>
+    ensures { told result ≡ plan_answer (plan_of s.now) }
 {
     if BYTES < s.len() {
-        return refused(0);
+        return Err(Fault::BadPlan.at(0));
     }
-    let mut number = [0u32; PORTS];
-    let mut first = [0u32; STARTS];
-    let mut low = [0u32; RANGES];
-    let mut high = [0u32; RANGES];
-    match read_count(s) {
-        CountRead::Bad(place) => refused(place),
-        CountRead::Got(count, begin) => {
-            let ports = count as usize;
-            match read_ports(
-                s,
-                begin,
-                ports,
-                &mut number,
-                &mut first,
-                &mut low,
-                &mut high,
-            ) {
-                PlanStep::Bad(place) => refused(place),
-                PlanStep::Next(end) => {
-                    if end != s.len() {
-                        return refused(end);
-                    }
-                    let contents = PlanContents {
-                        ports: ports,
-                        number: number,
-                        first: first,
-                        low: low,
-                        high: high,
-                    };
-                    PlanAnswer {
-                        read: PlanRead::Fine,
-                        contents: contents,
-                    }
-                }
-            }
-        }
+    let edition = plan_field(s, 0, 1, 1)?;
+    let ports = plan_field(s, edition.next, 0, PORTS_MOST)?;
+    let mut contents = PlanContents {
+        ports: ports.value as usize,
+        number: [0; PORTS],
+        first: [0; STARTS],
+        low: [0; RANGES],
+        high: [0; RANGES],
+    };
+    let end = read_ports(s, ports.next, &mut contents)?;
+    if end != s.len() {
+        return Err(Fault::BadPlan.at(end));
     }
+    Ok(contents)
 }
 
-// The asked port among the first ports of the contents; refusal 12 where it is missing.
-pub fn port_index(number: &[u32; PORTS], ports: usize, port: u32) -> Asked
-    requires { ports ≤ ports_most }
-    ensures { result ≡ asked number.now port 0 ports }
+// Where in the contents the asked port stands; none is refusal 12.
+pub fn port_index(plan: &PlanContents, port: u32) -> Option<usize>
+    requires { plan.now.ports ≤ ports_most }
+    ensures { result ≡ asked plan.now.number port 0 plan.now.ports }
 {
-    let mut i: usize = 0;
-    while i < ports {
-        if number[i] == port {
-            return Asked::At(i);
-        }
-        i = i + 1;
-    }
-    Asked::Missing
+    plan.number[..plan.ports]
+        .iter()
+        .position(|&number| number == port)
 }

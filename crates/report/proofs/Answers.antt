@@ -11,11 +11,13 @@ use lib.Seq.{take_at}
 use borrow.Author.Tests.{le-leb, lt-leb}
 use Rattle.text.specs.Puts.{Puts}
 use Rattle.report.specs.Reports.{answer_of, text_after}
-use Rattle.model.specs.Answer.{when}
+use Rattle.model.specs.Answer.{fine, refused, when}
 use Rattle.model.specs.Filling.{put}
 use Rattle.model.proofs.Filling.{put_front}
-use Rattle.report.specs.declared.Reported.{Reported}
-use Rattle.report.specs.declared.Reported.TheVariants.{Bytes, Short}
+use Rattle.std.specs.Prelude.{Result, Ok, Err}
+use Rattle.refusals.specs.declared.Refusal.{Refusal}
+use Rattle.refusals.specs.declared.Fault.TheVariants.{TextTooShort}
+use Rattle.refusals.specs.Refusals.{refusal_at, told}
 
 module _ (w t : List ℕ) (n : ℕ) (buf : List ℕ) (p : Puts w 0 t n buf) where
   counted : n ≡ length t
@@ -27,23 +29,23 @@ module _ (w t : List ℕ) (n : ℕ) (buf : List ℕ) (p : Puts w 0 t n buf) wher
   pub as_long : n ≡ length (take n buf)
   as_long = counted ∙ ap length (sym written)
 
-  pub short : (text : List ℕ) → length text < n → (Short n ≡ answer_of t (length text)) × (text ≡ text_after t text)
+  pub short : (text : List ℕ) → length text < n → (told {A = ℕ} (Err (refusal_at TextTooShort n)) ≡ answer_of t (length text)) × (text ≡ text_after t text)
   unfolding answer_of text_after
   short text lt =
       let k : leb (length t) (length text) ≡ _ = lt-leb (length t) (length text) (omega (arith, counted)) in
       (rw (k, counted), rw k)
 
-  pub handed : (text : List ℕ) → n ≤ length text → (r : ℕ) (text' : List ℕ) → Puts text 0 (take n buf) r text' → (Bytes n ≡ answer_of t (length text)) × (text' ≡ text_after t text)
+  pub handed : (text : List ℕ) → n ≤ length text → (r : ℕ) (text' : List ℕ) → Puts text 0 (take n buf) r text' → (told (Ok n) ≡ answer_of t (length text)) × (text' ≡ text_after t text)
   unfolding answer_of text_after
   handed text le r text' q =
       let k : leb (length t) (length text) ≡ _ = le-leb (length t) (length text) (omega (arith, counted)) in
       (rw (k, counted), rw k (q.written ∙ ap (put text 0) written ∙ put_front text t))
 
 -- bytes that were written are there
-pub bytes_given : (t text text' : List ℕ) (r : Reported) (n : ℕ) → r ≡ answer_of t (length text) → text' ≡ text_after t text → r ≡ Bytes n → n ≤ length text'
+pub bytes_given : (t text text' : List ℕ) (r : Result ℕ Refusal) (n : ℕ) → told r ≡ answer_of t (length text) → text' ≡ text_after t text → r ≡ Ok n → n ≤ length text'
 unfolding answer_of text_after
-bytes_given t text text' r n a e g = go (leb (length t) (length text)) (sym g ∙ a) e
+bytes_given t text text' r n a e g = go (leb (length t) (length text)) (sym (ap told g) ∙ a) e
   where
-    go : (b : Bool) → Bytes n ≡ when b (Bytes (length t)) (Short (length t)) → text' ≡ when b (t ++ drop (length t) text) text → n ≤ length text'
+    go : (b : Bool) → fine n ≡ when b (fine (length t)) (refused 19 (length t)) → text' ≡ when b (t ++ drop (length t) text) text → n ≤ length text'
     go true h k = let same : n ≡ length t = cc in omega (arith, ap length k, length-append t (drop (length t) text))
-    go false h k = absurd (let z : ◌≡◌ {A = ℕ} 0 1 = cc in omega arith)
+    go false h k = absurd (cc)

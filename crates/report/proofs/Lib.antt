@@ -1,5 +1,4 @@
 pub mod Lengths
-pub mod Phases
 pub mod PortLoop
 pub mod Parts
 pub mod Reviewing

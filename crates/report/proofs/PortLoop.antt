@@ -16,8 +16,8 @@ use Rattle.model.specs.Report.{port_lines}
 use Rattle.plan.specs.Contents.{PlanShape, ranges_at, ports_at}
 use Rattle.plan.specs.declared.PlanContents.{PlanContents}
 use Rattle.plan.proofs.Charted.{plan_charted}
-use Rattle.review.specs.States.{phase_of}
-use Rattle.review.specs.declared.Phase.{Phase}
+use Rattle.review.specs.Reviews.{phase_told}
+use Rattle.review.specs.declared.Reviewed.{Reviewed}
 use Rattle.text.specs.Puts.{Puts}
 use Rattle.text.proofs.Appends.{nothing, then, puts_length}
 use Rattle.report.specs.Lines.{port_text, line_most}
@@ -66,11 +66,11 @@ module _ (s : List ℕ) (c : PlanContents) (w : List ℕ) (at : ℕ) where
       pub line_room : at + ports_most * line_most ≤ length w → to + line_most ≤ length w'
       line_room h = let few = (plan_shape c p).few in omega (arith, g.same, g.bound)
 
-      pub next : (phase : Phase) → PortReviewed s c i phase →
-          (w'' : List ℕ) (to' : ℕ) → Puts w' to (port_text (get_or c.number i 0) (phase_of phase)) to' w'' → Going s c w at w'' to' (i + 1)
+      pub next : (reviewed : Reviewed) → PortReviewed s c i reviewed →
+          (w'' : List ℕ) (to' : ℕ) → Puts w' to (port_text (get_or c.number i 0) (phase_told reviewed)) to' w'' → Going s c w at w'' to' (i + 1)
       unfolding port_lines
-      next phase h w'' to' q =
-          let size = (port_short (get_or c.number i 0) (phase_of phase)).within in
+      next reviewed h w'' to' q =
+          let size = (port_short (get_or c.number i 0) (phase_told reviewed)).within in
           record {
             within = omega arith;
             same = puts_length q ∙ g.same;
@@ -78,7 +78,7 @@ module _ (s : List ℕ) (c : PlanContents) (w : List ℕ) (at : ℕ) where
             front = λ b e.
                 let f = g.front b e in
                 record {
-                  text = f.text ++ port_text (get_or c.number i 0) (phase_of phase);
+                  text = f.text ++ port_text (get_or c.number i 0) (phase_told reviewed);
                   puts = then f.puts q;
                   rest = append_assoc f.text _ _ ∙ ap (λ (l : List ℕ). f.text ++ (l ++ port_lines (list_of b) (ports_at c (i + 1) (c.ports - (i + 1))))) (ap (port_text (get_or c.number i 0)) (h b e)) ∙ ap (λ (ps : List Port). f.text ++ port_lines (list_of b) ps) here ∙ f.rest;
                 };

@@ -17,12 +17,11 @@ use Rattle.plan.specs.declared.PlanContents.{PlanContents}
 use Rattle.plan.proofs.Charted.{plan_charted}
 use Rattle.suspects.specs.Slots.{writes}
 use Rattle.suspects.specs.declared.Suspects.{Suspects}
-use Rattle.review.specs.States.{phase_of}
-use Rattle.review.specs.Reviews.{Reviewable}
-use Rattle.review.specs.declared.Phase.{Phase}
+use Rattle.review.specs.Reviews.{Reviewable, phase_told}
+use Rattle.review.specs.declared.Reviewed.{Reviewed}
 use Rattle.report.specs.Reports.{ListIn, PlanIn, PortReviewed}
 
-module _ (s words : List ℕ) (count : ℕ) (l : ListIn s words count) (c : PlanContents) (p : PlanIn c) (i : ℕ) (lt : i < c.ports) where
+module _ (s list : List ℕ) (l : ListIn s list) (c : PlanContents) (p : PlanIn c) (i : ℕ) (lt : i < c.ports) where
   charted : PlanCharted p.ports c
   charted = subst (PlanCharted p.ports) (sym p.contents) (plan_charted p.bytes p.ports p.read)
 
@@ -30,15 +29,13 @@ module _ (s words : List ℕ) (count : ℕ) (l : ListIn s words count) (c : Plan
   own_ranges = charted.ranges (get_or c.number i 0) ∙ ap (ranges_asked c (get_or c.number i 0)) (charted.own i lt)
 
   module _ (t : Suspects) (h : writes t (complement greatest (ranges_at c i))) where
-    abbrev pub reviewable : Reviewable s words count (get_or c.number i 0) t
+    abbrev pub reviewable : Reviewable s list (get_or c.number i 0) t
     reviewable = record {
       plan = p.bytes;
       inputs = record { b = l.book; ports = p.ports; ranges = ranges_at c i; is_book = l.read; is_plan = p.read; are_ranges = own_ranges };
-      others = l.others;
-      are = l.list;
-      counted = l.counted;
+      are = l.are;
       suspects = h;
     }
 
-    pub reviewed : (phase : Phase) → ((x : Reviewable s words count (get_or c.number i 0) t) → phase_of phase ≡ review (get_or c.number i 0) (suspects_in x.inputs) (list_in x.inputs)) → PortReviewed s c i phase
-    reviewed phase r b e = subst (λ (x : Book). phase_of phase ≡ review (get_or c.number i 0) (complement greatest (ranges_at c i)) (list_of x)) (fine_same (sym l.read ∙ e)) (r reviewable)
+    pub reviewed : (r : Reviewed) → ((x : Reviewable s list (get_or c.number i 0) t) → phase_told r ≡ review (get_or c.number i 0) (suspects_in x.inputs) (list_in x.inputs)) → PortReviewed s c i r
+    reviewed r h b e = subst (λ (x : Book). phase_told r ≡ review (get_or c.number i 0) (complement greatest (ranges_at c i)) (list_of x)) (fine_same (sym l.read ∙ e)) (h reviewable)

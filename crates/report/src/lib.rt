@@ -5,15 +5,16 @@ ghost use Rattle.std.specs.Prelude.{◌≡◌, ◌+◌, ◌*◌, ◌≤◌, ◌<
 ghost use Rattle.model.specs.Limits.{ports_most};
 ghost use Rattle.model.specs.Report.{report as reportText};
 ghost use Rattle.model.specs.Entries.{words_after};
+ghost use Rattle.refusals.specs.Refusals.{told};
 ghost use Rattle.text.specs.Puts.{Puts};
 ghost use Rattle.report.specs.Lines.{line_most, body_most, buffer_bytes};
-ghost use Rattle.report.specs.Reports.{ListIn, PlanIn, BookIn, PortReviewed, PortsPut, ListPut, BodyPut, report_entry, answer_of, text_after};
+ghost use Rattle.report.specs.Reports.{ListIn, PlanIn, PortReviewed, PortsPut, BodyPut, report_entry, answer_of, text_after};
 
-use book::{CHAINS, Contents};
-use checking::{Reading, check};
-use listing::{Listed, list_book};
-use plan::{PORTS, PlanContents, PlanRead, read_plan};
-use review::Phase;
+use checking::check;
+use listing::list_book;
+use plan::{PORTS, PlanContents, read_plan};
+use refusals::{Fault, Refusal};
+use review::Reviewed;
 use review::beginning::port_suspects;
 use review::whole::review_list;
 use text::put_text;
@@ -32,91 +33,45 @@ const LINE: usize = 91;
 // Room for the longest report: the header, the counts, and a line for each port that a plan may have.
 pub const BUFFER: usize = HEADER + COUNTS + PORTS * LINE;
 
-// How many bytes the report has: they were written, or the lent text is too short for them.
-#[derive(Clone, Copy)]
-pub enum Reported {
-    Bytes(usize),
-    Short(usize),
-}
-
 // Port `i` of the plan, over the book's list.
-fn review_port(book: &[u8], words: &[u32], count: usize, plan: PlanContents, i: usize) -> Phase
-    requires { ListIn book.now words.now count × PlanIn plan × (i < plan.ports) }
-    ensures { PortReviewed book.now plan i result }
+fn review_port(book: &[u8], list: &[u32], plan: &PlanContents, i: usize) -> Reviewed
+    requires { ListIn book.now list.now × PlanIn plan.now × (i < plan.now.ports) }
+    ensures { PortReviewed book.now plan.now i result }
 {
     let suspects = port_suspects(plan, i);
-    review_list(book, words, count, plan.number[i], suspects)
+    review_list(book, list, plan.number[i], suspects)
 }
 
 // A line for each port, in the order of the plan.
-fn put_ports(
-    book: &[u8],
-    words: &[u32],
-    count: usize,
-    plan: PlanContents,
-    buf: &mut [u8],
-    at: usize,
-) -> usize
-    requires { ListIn book.now words.now count × PlanIn plan × (at + ports_most * line_most ≤ length buf.old) }
-    ensures { PortsPut book.now plan buf.old at result buf.new }
+fn put_ports(book: &[u8], list: &[u32], plan: &PlanContents, buf: &mut [u8], at: usize) -> usize
+    requires { ListIn book.now list.now × PlanIn plan.now × (at + ports_most * line_most ≤ length buf.old) }
+    ensures { PortsPut book.now plan.now buf.old at result buf.new }
 {
-    let ports = plan.ports;
     let mut to = at;
-    let mut i: usize = 0;
-    while i < ports {
-        let phase = review_port(book, words, count, plan, i);
-        to = put_port(buf, to, plan.number[i], phase);
-        i += 1;
+    for i in 0..plan.ports {
+        let reviewed = review_port(book, list, plan, i);
+        to = put_port(buf, to, plan.number[i], reviewed);
     }
     to
 }
 
-// Of a book and a plan that were read: the list needs room.
-fn put_list(
-    book: &[u8],
-    contents: Contents,
-    ranks: [u32; CHAINS],
-    plan: PlanContents,
-    words: &mut [u32],
-    buf: &mut [u8],
-    at: usize,
-) -> usize
-    requires { BookIn book.now contents ranks × PlanIn plan × (at + body_most ≤ length buf.old) }
-    ensures { ListPut book.now plan words.old words.new buf.old at result buf.new }
-{
-    let rules = contents.rules;
-    let listed = list_book(contents, ranks, words);
-    match listed {
-        Listed::Refused(n, place) => put_refusal(buf, at, n, place),
-        Listed::Counts(count, list) => {
-            let next = put_counts(buf, at, rules, list);
-            put_ports(book, words, count, plan, buf, next)
-        }
-    }
-}
-
-// Of a book that was read: then the plan is.
+// The lines below the header. What is refused is so before the first of them: the book, then the plan, then the room for the list.
 fn put_body(
     book: &[u8],
     plan: &[u8],
-    contents: Contents,
-    ranks: [u32; CHAINS],
     words: &mut [u32],
     buf: &mut [u8],
     at: usize,
-) -> usize
-    requires { BookIn book.now contents ranks × (at + body_most ≤ length buf.old) }
-    ensures { BodyPut book.now plan.now words.old words.new buf.old at result buf.new }
+) -> Result<usize, Refusal>
+    requires { at + body_most ≤ length buf.old }
+    ensures body { BodyPut (report_entry book.now plan.now (length words.old)) buf.old at result buf.new }
+    ensures lent { words.new ≡ words_after (report_entry book.now plan.now (length words.old)) book.now words.old }
 {
-    let answer = read_plan(plan);
-    let read = answer.read;
-    match read {
-        PlanRead::Refused(n, place) => put_refusal(buf, at, n, place),
-        PlanRead::Fine => {
-            let ports = answer.contents;
-            put_list(book, contents, ranks, ports, words, buf, at)
-        }
-    }
+    let checked = check(book)?;
+    let plan = read_plan(plan)?;
+    let need = list_book(&checked, words)?;
+    let next = put_counts(buf, at, checked.contents.rules, need.rules);
+    Ok(put_ports(book, &words[..need.words], &plan, buf, next))
 }
 
 fn write_report(book: &[u8], plan: &[u8], words: &mut [u32], buf: &mut [u8]) -> usize
@@ -125,29 +80,28 @@ fn write_report(book: &[u8], plan: &[u8], words: &mut [u32], buf: &mut [u8]) -> 
     ensures lent { words.new ≡ words_after (report_entry book.now plan.now (length words.old)) book.now words.old }
 {
     let at = put_text(buf, 0, b"spoof report 1\n");
-    let checked = check(book);
-    let reading = checked.reading;
-    match reading {
-        Reading::Refused(n, place) => put_refusal(buf, at, n, place),
-        Reading::Fine => {
-            let contents = checked.contents;
-            let ranks = checked.ranks;
-            put_body(book, plan, contents, ranks, words, buf, at)
-        }
+    match put_body(book, plan, words, buf, at) {
+        Ok(end) => end,
+        Err(refusal) => put_refusal(buf, at, refusal),
     }
 }
 
-// THE REPORT. A text that is too short for it is left as it was.
-pub fn report(book: &[u8], plan: &[u8], words: &mut [u32], text: &mut [u8]) -> Reported
-    ensures answer { result ≡ answer_of (reportText book.now plan.now (length words.old)) (length text.old) }
+// THE REPORT: how many bytes it has. A text that is too short for it is left as it was.
+pub fn report(
+    book: &[u8],
+    plan: &[u8],
+    words: &mut [u32],
+    text: &mut [u8],
+) -> Result<usize, Refusal>
+    ensures answer { told result ≡ answer_of (reportText book.now plan.now (length words.old)) (length text.old) }
     ensures text { text.new ≡ text_after (reportText book.now plan.now (length words.old)) text.old }
     ensures lent { words.new ≡ words_after (report_entry book.now plan.now (length words.old)) book.now words.old }
 {
-    let mut buf = [0u8; BUFFER];
+    let mut buf = [0; BUFFER];
     let n = write_report(book, plan, words, &mut buf);
     if text.len() < n {
-        return Reported::Short(n);
+        return Err(Fault::TextTooShort.at(n));
     }
     put_text(text, 0, &buf[..n]);
-    Reported::Bytes(n)
+    Ok(n)
 }

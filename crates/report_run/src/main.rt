@@ -2,86 +2,41 @@
 // refuse them, and words and text that are one too few and just enough.
 #![tactic(auto)]
 
+use std::io;
+
 mod books;
 mod cases;
 mod lent_words;
 mod plans;
 mod ports;
+mod put;
 mod show;
 mod texts;
 
-fn refused_books(plan: &[u8]) {
-    books::lengths(plan);
-    books::more_lengths(plan);
-    books::ends(plan);
-    books::writings(plan);
-    books::headers(plan);
-    books::rules(plan);
-    books::fields(plan);
-    books::called(plan);
-    books::sources(plan);
-    books::behind(plan);
-    books::loops(plan);
-    books::weights(plan);
-}
-
-fn refused_plans(book: &[u8]) {
-    plans::editions(book);
-    plans::counts(book);
-    plans::ports(book);
-    plans::missing(book);
-    plans::ranges(book);
-    plans::behind(book);
-    plans::lengths(book);
-}
-
 // C1 and C2's plan.
-fn with_both(book: &[u8], plan: &[u8]) {
-    cases::missing(book, plan);
-    lent_words::few(book, plan);
-    texts::fine(book, plan);
-    texts::words(book, plan);
-    texts::refused();
+fn with_both(rt: &HostRuntime, book: &[u8], plan: &[u8]) -> io::Result<()> {
+    cases::missing(rt, book, plan)?;
+    lent_words::few(rt, book, plan)?;
+    texts::fine(rt, book, plan)?;
+    texts::words(rt, book, plan)?;
+    texts::refused(rt)
 }
 
-// The book of the ranges accepts all; the plans have no ranges, for port 0 and for all ports.
-fn by_ports() {
-    ports::all();
-    ports::ranges(b"\x01\x01\x01\x01\x00\x00");
-    ports::lowest(b"\x01\x01\x01\x01\x00\x00");
-    ports::lowest_inside(b"\x01\x01\x01\x01\x00\x00");
-    ports::policies(b"\x01\x01\x00\x00");
-    ports::actions(b"\x01\x01\x00\x00");
-    ports::numbers(
-        b"\x01\x20\x00\x00\x01\x00\x02\x00\x03\x00\x04\x00\x05\x00\x06\x00\x07\x00\x08\x00\x09\x00\x0A\x00\x0B\x00\x0C\x00\x0D\x00\x0E\x00\x0F\x00\x10\x00\x11\x00\x12\x00\x13\x00\x14\x00\x15\x00\x16\x00\x17\x00\x18\x00\x19\x00\x1A\x00\x1B\x00\x1C\x00\x1D\x00\x1E\x00\x1F\x00",
-    );
+fn rooms(rt: &HostRuntime, plan: &[u8]) -> io::Result<()> {
+    lent_words::fewest(rt, plan)?;
+    lent_words::heaviest(rt, plan)?;
+    lent_words::millions(rt, plan)
 }
 
-fn rooms(plan: &[u8]) {
-    lent_words::fewest(plan);
-    lent_words::heaviest(
-        b"\x01\x0D\x01\x04\x06\x01\x00\x06\x01\x00\x00\x04\x1F\x00\x00\x02\x06\x02\x00\x06\x02\x00\x02\x06\x03\x00\x06\x03\x00\x02\x06\x04\x00\x06\x04\x00\x02\x06\x05\x00\x06\x05\x00\x02\x06\x06\x00\x06\x06\x00\x02\x06\x07\x00\x06\x07\x00\x02\x06\x08\x00\x06\x08\x00\x02\x06\x09\x00\x06\x09\x00\x02\x06\x0A\x00\x06\x0A\x00\x02\x06\x0B\x00\x06\x0B\x00\x02\x06\x0C\x00\x06\x0C\x00\x02\x00\x04\x1F\x00\x04\x1F",
-        plan,
-    );
-    lent_words::millions(plan);
-}
-
-fn main() {
-    cases::c2_to_c4(b"\x01\x02\x00\x01\x80\x80\xA0\x85\x0C\xFF\x81\xA0\x85\x0C\x01\x00");
-    cases::c5_to_c7(b"\x01\x02\x00\x01\x80\x80\xA0\x85\x0C\xFF\x81\xA0\x85\x0C\x01\x00");
-    cases::c8(b"\x01\x01\x00\x00");
-    cases::returns(b"\x01\x01\x00\x00");
-    with_both(
-        b"\x01\x01\x01\x02\x01\x02\x02\x04\x00\x01\x03\x80\x80\xA0\x85\x0C\xFF\x81\xA0\x85\x0C\x00\x00",
-        b"\x01\x02\x00\x01\x80\x80\xA0\x85\x0C\xFF\x81\xA0\x85\x0C\x01\x00",
-    );
-    refused_books(b"\x01\x02\x00\x01\x80\x80\xA0\x85\x0C\xFF\x81\xA0\x85\x0C\x01\x00");
-    refused_plans(
-        b"\x01\x01\x01\x02\x01\x02\x02\x04\x00\x01\x03\x80\x80\xA0\x85\x0C\xFF\x81\xA0\x85\x0C\x00\x00",
-    );
-    ports::few(
-        b"\x01\x01\x01\x02\x01\x02\x02\x04\x00\x01\x03\x80\x80\xA0\x85\x0C\xFF\x81\xA0\x85\x0C\x00\x00",
-    );
-    by_ports();
-    rooms(b"\x01\x02\x00\x01\x80\x80\xA0\x85\x0C\xFF\x81\xA0\x85\x0C\x01\x00");
+fn main(rt: HostRuntime) -> io::Result<()> {
+    let c1 =
+        b"\x01\x01\x01\x02\x01\x02\x02\x04\x00\x01\x03\x80\x80\xA0\x85\x0C\xFF\x81\xA0\x85\x0C\x00\x00";
+    let plan = b"\x01\x02\x00\x01\x80\x80\xA0\x85\x0C\xFF\x81\xA0\x85\x0C\x01\x00";
+    cases::c2_to_c7(&rt, plan)?;
+    cases::c8_and_returns(&rt, b"\x01\x01\x00\x00")?;
+    with_both(&rt, c1, plan)?;
+    books::all(&rt, plan)?;
+    plans::all(&rt, c1)?;
+    ports::all(&rt, c1)?;
+    rooms(&rt, plan)
 }

@@ -1,113 +1,162 @@
 // Ports in number and order, and the rule and the source that refuse them.
-use crate::show::{reported, with_text};
-use text::put_text;
+use crate::put::{bytes, ports};
+use crate::show::{report_all, report_books, report_plans, reported, with_text};
+use std::io;
 
-pub fn few(book: &[u8]) {
-    reported(b"no ports", book, b"\x01\x00");
-    reported(b"no ports, no rules", b"\x01\x01\x00\x00", b"\x01\x00");
-    reported(
-        b"ports 5, 9 and 31",
-        book,
-        b"\x01\x03\x05\x00\x09\x00\x1F\x00",
-    );
+fn few(rt: &HostRuntime, book: &[u8]) -> io::Result<()> {
+    report_all(
+        rt,
+        &[
+            ("no ports", book, b"\x01\x00"),
+            ("no ports, no rules", b"\x01\x01\x00\x00", b"\x01\x00"),
+            (
+                "ports 5, 9 and 31",
+                book,
+                b"\x01\x03\x05\x00\x09\x00\x1F\x00",
+            ),
+        ],
+    )
+}
+
+// Ranges for ports 11, 12 and 31.
+fn ranged(b: &mut [u8]) -> usize {
+    let mut at = bytes(b, 0, b"\x01\x20");
+    at = ports(b, at, 0, 11);
+    at = bytes(b, at, b"\x0B\x01\x00\xFF\xFF\xFF\x4F\x0C\x01\x00\x00");
+    at = ports(b, at, 13, 31);
+    bytes(b, at, b"\x1F\x01\x00\xFE\xFF\xFF\xFF\x0F")
 }
 
 // Rules for ports 0, 1, 2, 9, 10, 11, 12, 30 and 31, and the policy drop for the others.
-pub fn all() {
-    reported(
-        b"32 ports, some refused",
-        b"\x01\x01\x01\x0C\x01\x04\x00\x00\x04\x01\x01\x02\x02\x04\x02\x03\x00\x09\x00\x04\x02\x01\x02\x02\x04\x09\x01\x03\xFF\xFF\xFF\xFF\x0F\xFF\xFF\xFF\xFF\x0F\x00\x04\x09\x00\x02\x02\x04\x0A\x03\x83\x84\x84\x50\x83\x84\x84\x50\x00\x02\x02\x04\x0B\x08\x05\x01\x02\x02\x04\x0C\x08\x05\x00\x04\x0C\x00\x02\x02\x04\x1E\x04\x1F\x00\x04\x1F",
-        b"\x01\x20\x00\x00\x01\x00\x02\x00\x03\x00\x04\x00\x05\x00\x06\x00\x07\x00\x08\x00\x09\x00\x0A\x00\x0B\x01\x00\xFF\xFF\xFF\x4F\x0C\x01\x00\x00\x0D\x00\x0E\x00\x0F\x00\x10\x00\x11\x00\x12\x00\x13\x00\x14\x00\x15\x00\x16\x00\x17\x00\x18\x00\x19\x00\x1A\x00\x1B\x00\x1C\x00\x1D\x00\x1E\x00\x1F\x01\x00\xFE\xFF\xFF\xFF\x0F",
+fn refused_by_rules(rt: &HostRuntime) -> io::Result<()> {
+    let mut book = [0u8; 82];
+    let mut at = bytes(
+        &mut book,
+        0,
+        b"\x01\x01\x01\x0C\x01\x04\x00\x00\x04\x01\x01\x02\x02\x04\x02\x03\x00\x09\x00\x04\x02",
     );
+    at = bytes(
+        &mut book,
+        at,
+        b"\x01\x02\x02\x04\x09\x01\x03\xFF\xFF\xFF\xFF\x0F\xFF\xFF\xFF\xFF\x0F\x00\x04\x09",
+    );
+    at = bytes(
+        &mut book,
+        at,
+        b"\x00\x02\x02\x04\x0A\x03\x83\x84\x84\x50\x83\x84\x84\x50\x00\x02\x02\x04\x0B\x08\x05",
+    );
+    bytes(
+        &mut book,
+        at,
+        b"\x01\x02\x02\x04\x0C\x08\x05\x00\x04\x0C\x00\x02\x02\x04\x1E\x04\x1F\x00\x04\x1F",
+    );
+    let mut plan = [0u8; 79];
+    ranged(&mut plan);
+    reported(rt, "32 ports, some refused", &book, &plan)
 }
 
-// Each port has its own ranges.
-pub fn ranges(book: &[u8]) {
-    reported(
-        b"three ports with ranges",
-        book,
-        b"\x01\x03\x00\x01\x05\x06\x01\x01\x00\x00\x02\x02\x00\x09\x0B\x14",
-    );
-    reported(
-        b"64 ranges",
-        book,
-        b"\x01\x01\x00\x40\x00\x00\x02\x02\x04\x04\x06\x06\x08\x08\x0A\x0A\x0C\x0C\x0E\x0E\x10\x10\x12\x12\x14\x14\x16\x16\x18\x18\x1A\x1A\x1C\x1C\x1E\x1E\x20\x20\x22\x22\x24\x24\x26\x26\x28\x28\x2A\x2A\x2C\x2C\x2E\x2E\x30\x30\x32\x32\x34\x34\x36\x36\x38\x38\x3A\x3A\x3C\x3C\x3E\x3E\x40\x40\x42\x42\x44\x44\x46\x46\x48\x48\x4A\x4A\x4C\x4C\x4E\x4E\x50\x50\x52\x52\x54\x54\x56\x56\x58\x58\x5A\x5A\x5C\x5C\x5E\x5E\x60\x60\x62\x62\x64\x64\x66\x66\x68\x68\x6A\x6A\x6C\x6C\x6E\x6E\x70\x70\x72\x72\x74\x74\x76\x76\x78\x78\x7A\x7A\x7C\x7C\x7E\x7E",
-    );
+// Each port has its own ranges; the greatest count of them.
+fn ranges(rt: &HostRuntime, book: &[u8]) -> io::Result<()> {
+    let three = b"\x01\x03\x00\x01\x05\x06\x01\x01\x00\x00\x02\x02\x00\x09\x0B\x14";
+    reported(rt, "three ports with ranges", book, three)?;
+    let mut plan = [0u8; 132];
+    let mut at = bytes(&mut plan, 0, b"\x01\x01\x00\x40");
+    for i in 0..64u8 {
+        at = bytes(&mut plan, at, &[2 * i, 2 * i]);
+    }
+    reported(rt, "64 ranges", book, &plan)
 }
 
 // An accept of all names the lowest source outside the ranges.
-pub fn lowest(book: &[u8]) {
-    reported(
-        b"all sources but 0.0.0.0",
+fn lowest(rt: &HostRuntime, book: &[u8]) -> io::Result<()> {
+    report_plans(
+        rt,
         book,
-        b"\x01\x01\x00\x01\x01\xFF\xFF\xFF\xFF\x0F",
-    );
-    reported(
-        b"all sources but 255.255.255.255",
-        book,
-        b"\x01\x01\x00\x01\x00\xFE\xFF\xFF\xFF\x0F",
-    );
+        &[
+            (
+                "all sources but 0.0.0.0",
+                b"\x01\x01\x00\x01\x01\xFF\xFF\xFF\xFF\x0F",
+            ),
+            (
+                "all sources but 255.255.255.255",
+                b"\x01\x01\x00\x01\x00\xFE\xFF\xFF\xFF\x0F",
+            ),
+            (
+                "sources to 192.168.0.255",
+                b"\x01\x01\x00\x01\x00\xFF\x81\xA0\x85\x0C",
+            ),
+            (
+                "sources to 9.10.99.99",
+                b"\x01\x01\x00\x01\x00\xE3\xC6\xA9\x48",
+            ),
+            ("all sources", b"\x01\x01\x00\x01\x00\xFF\xFF\xFF\xFF\x0F"),
+        ],
+    )
 }
 
-pub fn lowest_inside(book: &[u8]) {
-    reported(
-        b"sources to 192.168.0.255",
-        book,
-        b"\x01\x01\x00\x01\x00\xFF\x81\xA0\x85\x0C",
-    );
-    reported(
-        b"sources to 9.10.99.99",
-        book,
-        b"\x01\x01\x00\x01\x00\xE3\xC6\xA9\x48",
-    );
-    reported(
-        b"all sources",
-        book,
-        b"\x01\x01\x00\x01\x00\xFF\xFF\xFF\xFF\x0F",
-    );
-}
-
-// The policy refuses by the total of rules.
-pub fn policies(plan: &[u8]) {
-    reported(b"no rules, policy accept", b"\x01\x01\x00\x00", plan);
-    reported(b"no rules, policy drop", b"\x01\x01\x01\x00", plan);
-    reported(
-        b"log, empty, an accept of no port, policy accept",
-        b"\x01\x01\x00\x03\x03\x00\x04\x00\x00\x02\x02\x04\x00\x04\x01",
+// The policy refuses by the total of rules. Reject drops, log and empty are not in the list.
+fn policies(rt: &HostRuntime, plan: &[u8]) -> io::Result<()> {
+    report_books(
+        rt,
         plan,
-    );
-}
-
-// Reject drops, log and empty are not in the list.
-pub fn actions(plan: &[u8]) {
-    reported(
-        b"reject of all, policy accept",
-        b"\x01\x01\x00\x01\x02\x00",
-        plan,
-    );
-    reported(
-        b"log, empty, accept",
-        b"\x01\x01\x01\x03\x03\x00\x04\x00\x00\x00",
-        plan,
-    );
+        &[
+            ("no rules, policy accept", b"\x01\x01\x00\x00"),
+            ("no rules, policy drop", b"\x01\x01\x01\x00"),
+            (
+                "log, empty, an accept of no port, policy accept",
+                b"\x01\x01\x00\x03\x03\x00\x04\x00\x00\x02\x02\x04\x00\x04\x01",
+            ),
+            ("reject of all, policy accept", b"\x01\x01\x00\x01\x02\x00"),
+            (
+                "log, empty, accept",
+                b"\x01\x01\x01\x03\x03\x00\x04\x00\x00\x00",
+            ),
+        ],
+    )
 }
 
 // Bytes of 4 are rules that do nothing for port 4. The first rule drops all sources but the greatest, and the last may accept.
-pub fn numbers(plan: &[u8]) {
-    let mut b = [4u8; 3087];
-    put_text(
-        &mut b,
+fn numbers(rt: &HostRuntime) -> io::Result<()> {
+    let mut plan = [0u8; 66];
+    let at = bytes(&mut plan, 0, b"\x01\x20");
+    ports(&mut plan, at, 0, 32);
+    let mut book = [4u8; 3087];
+    bytes(
+        &mut book,
         0,
         b"\x01\x01\x00\x80\x08\x01\x01\x03\xFF\xFF\xFF\xFF\x0F\xFF\xFF\xFF\xFF\x0F",
     );
-    let mut short = [46u8; 1590];
-    with_text(b"32 ports by the policy, 1590 bytes", &b, plan, &mut short);
-    let mut text = [46u8; 1591];
-    with_text(b"32 ports by the policy, 1591 bytes", &b, plan, &mut text);
-    b[3084] = 0;
+    let mut text = [b'.'; 1591];
+    with_text(
+        rt,
+        "32 ports by the policy, 1590 bytes",
+        &book,
+        &plan,
+        &mut text[..1590],
+    )?;
+    with_text(
+        rt,
+        "32 ports by the policy, 1591 bytes",
+        &book,
+        &plan,
+        &mut text,
+    )?;
+    book[3084] = 0;
     reported(
-        b"port 4 by the last of 1024 rules",
-        &b,
+        rt,
+        "port 4 by the last of 1024 rules",
+        &book,
         b"\x01\x02\x03\x00\x04\x00",
-    );
+    )
+}
+
+// The book of the ranges accepts all; the plan of the policies has no ranges.
+pub fn all(rt: &HostRuntime, c1: &[u8]) -> io::Result<()> {
+    let accepting = b"\x01\x01\x01\x01\x00\x00";
+    few(rt, c1)?;
+    refused_by_rules(rt)?;
+    ranges(rt, accepting)?;
+    lowest(rt, accepting)?;
+    policies(rt, b"\x01\x01\x00\x00")?;
+    numbers(rt)
 }

@@ -1,14 +1,16 @@
 -- The places of the rules' expressions rise with the rules' numbers, so a search by halves tells whether one of them is a place. Assumes nothing.
-use Prim.Native.Nat.{ℕ, zero, suc, ◌+◌, ◌≤◌, ◌<◌}
-use mathlib.Core.Bool.{true, false}
-use mathlib.Core.List.{List, [], ◌∷◌}
+use Rattle.std.proofs.Common.{◌≡◌, ℕ, zero, suc, ◌≤◌, ◌<◌, List, [], ◌∷◌, length, get_or, take, map, ◌-◌, true, false, refl, sym, ◌∙◌, ap, arith, Result, Ok, Err, is_ok, length-append}
+use Rattle.std.specs.List.Sorted.{IsSearchInRange, IsBinarySearchResult, IsNonDecreasingBy}
+use Rattle.std.specs.Ordering.{nat_cmp, ordering_index}
+use Rattle.std.proofs.lemmas.Bool.Decides.{nat_tests}
+use Rattle.std.proofs.lemmas.Cmp.{ranked}
+use Rattle.std.proofs.lemmas.List.{get_or-take, length-take-le}
+use Rattle.std.proofs.lemmas.List.Sorted.{IsNonDecreasingBy-from_default}
 use mathlib.Core.Logic.{⊎_elim}
 use mathlib.Core.Option.{some}
-use mathlib.Core.Path.{◌≡◌, refl, sym, ◌∙◌, ap}
-use native.Mathlib.Omega.{arith}
 use borrow.Author.Tests.{eq-eqb, ne_eqb}
 use lib.Dec.{eqb}
-use lib.ListN.{length, get_or}
+use lib.ListN.{length-map, replicate}
 use Rattle.model.specs.Limits.{rules_most}
 use Rattle.model.specs.Answer.{when}
 use Rattle.model.specs.Tree.{place_of, Rule, Book, rules_of}
@@ -17,9 +19,11 @@ use Rattle.model.proofs.BookRead.{Places, readable_is}
 use Rattle.model.proofs.Placed.{readable_read}
 use Rattle.model.proofs.Tests.{cases}
 use Rattle.model.proofs.BookKnown.{book_known}
-use Rattle.book.specs.Contents.{contents_of}
+use Rattle.book.specs.Contents.{note_of, no_note, contents_of, expression_at}
 use Rattle.book.specs.Own.{no_rule}
-use Rattle.book.proofs.Charts.{column_at}
+use Rattle.book.specs.declared.Contents.{Contents}
+use Rattle.book.specs.declared.NotedRule.{NotedRule}
+use Rattle.book.proofs.Charts.{note_is}
 use Rattle.suspects.proofs.Chains.{lt_or_le}
 use Rattle.review.specs.Known.{found, Known, HasBook}
 
@@ -50,60 +54,63 @@ match_some at (r ∷ rs) zero h e = rw (eq-eqb (place_of r.match) at e)
 match_some at (r ∷ rs) (suc i) h e =
     cases (λ t. true ≡ found (when t (some r.match) (match_in at rs))) (eqb (place_of r.match) at) (λ q. refl) (λ q. match_some at rs i (omega arith) e)
 
--- what the places of a book that was read are
-record Column (expression : List ℕ) (rules : ℕ) (b : Book) : Type 0 where
-  counted : length (rules_of b) ≡ rules
-  few : rules ≤ rules_most
-  are : (i : ℕ) → get_or expression i 0 ≡ place (rules_of b) i
-  rises : (i j : ℕ) → i < j → j < rules → get_or expression i 0 < get_or expression j 0
+-- what the contents of a book that was read say of its expressions
+record Column (k : Contents) (b : Book) : Type 0 where
+  counted : length (rules_of b) ≡ k.rules
+  few : k.rules ≤ rules_most
+  wide : k.rules ≤ length k.noted
+  are : (i : ℕ) → expression_at k i ≡ place (rules_of b) i
+  rises : (i j : ℕ) → i < j → j < k.rules → expression_at k i < expression_at k j
 
-column : {expression : List ℕ} {rules : ℕ} {b : Book} → Known expression rules b → Column expression rules b
+column : (k : Contents) (b : Book) → Known k b → Column k b
 unfolding contents_of
-column {expression} {rules} {b} k =
-    let r = readable_read k.bytes b k.read in
-    let known = book_known k.bytes b r.0 r.1 in
-    let places = (readable_is k.bytes b k.read).sound.places in
-    let counted : length (rules_of b) ≡ rules = sym known.total ∙ sym k.total in
-    let are : (i : ℕ) → get_or expression i 0 ≡ place (rules_of b) i = λ i. ap (λ l. get_or l i 0) k.column ∙ column_at (λ (r : Rule). place_of r.match) refl (rules_of b) i in
+column k b h =
+    let r = readable_read h.bytes b h.read in
+    let known = book_known h.bytes b r.0 r.1 in
+    let places = (readable_is h.bytes b h.read).sound.places in
+    let total : k.rules ≡ b.total = ap (λ (k : Contents). k.rules) h.contents in
+    let counted : length (rules_of b) ≡ k.rules = sym known.total ∙ sym total in
+    let noted = ap (λ (k : Contents). length k.noted) h.contents in
+    let long = length-append (map note_of (rules_of b)) (replicate (rules_most - length (rules_of b)) no_note) in
+    let are : (i : ℕ) → expression_at k i ≡ place (rules_of b) i = λ i. ap (λ (k : Contents). expression_at k i) h.contents ∙ ap (λ (r : NotedRule). r.expression) (note_is b i) in
     record {
       counted = counted;
-      few = omega (arith, known.room, k.total);
+      few = omega (arith, known.room, total);
+      wide = omega (arith, noted, long, length-map (rules_of b) note_of, counted);
       are = are;
-      rises = λ i j h l. rw (are i, are j) (places_rise places.0 (rules_of b) places.1 places.2 i j h (omega arith));
+      rises = λ i j p q. rw (are i, are j) (places_rise places.0 (rules_of b) places.1 places.2 i j p (omega arith));
     }
 
-pub few_rules : {expression : List ℕ} {rules : ℕ} → HasBook expression rules → rules ≤ rules_most
-few_rules h = (column h.known).few
+pub few_rules : (k : Contents) → HasBook k → k.rules ≤ rules_most
+few_rules k h = (column k h.book h.known).few
 
--- what is left to look at: before it all places are lower, behind it all are higher
-pub record Window (expression : List ℕ) (rules at low high : ℕ) : Type 0 where
-  pub inside : high ≤ rules
-  pub below : (i : ℕ) → i < low → get_or expression i 0 < at
-  pub above : (i : ℕ) → high ≤ i → i < rules → at < get_or expression i 0
+module _ (k : Contents) (at : ℕ) (b : Book) (h : Known k b) where
+  abbrev notes : List NotedRule
+  notes = take k.rules k.noted
 
-module _ (expression : List ℕ) (rules at : ℕ) where
-  pub window_all : Window expression rules at 0 rules
-  window_all = record { inside = omega arith; below = λ i h. absurd (omega arith); above = λ i h k. absurd (omega arith) }
+  counted : length notes ≡ k.rules
+  counted = length-take-le k.rules k.noted (column k b h).wide
 
-  module _ (h : HasBook expression rules) (low high : ℕ) (w : Window expression rules at low high) (m : ℕ) (lt : m < high) where
-    pub window_up : get_or expression m 0 < at → Window expression rules at (m + 1) high
-    window_up e = record {
-      inside = w.inside;
-      below = λ i k. ⊎_elim (λ q. omega (arith, (column h.known).rises i m q (omega (arith, w.inside)))) (λ q. let z : i ≡ m = omega arith in rw z e) (lt_or_le i m);
-      above = w.above;
-    }
+  -- the place that a note among the first says
+  note_place : (i : ℕ) → i < k.rules → (get_or notes i no_note).expression ≡ place (rules_of b) i
+  note_place i lt = ap (λ (r : NotedRule). r.expression) (get_or-take k.rules k.noted i no_note lt) ∙ (column k b h).are i
 
-    pub window_down : at < get_or expression m 0 → Window expression rules at low m
-    window_down e = record {
-      inside = omega (arith, w.inside);
-      below = w.below;
-      above = λ i k l. ⊎_elim (λ q. omega (arith, (column h.known).rises m i q l)) (λ q. let z : i ≡ m = omega arith in rw z e) (lt_or_le m i);
-    }
+  comparisons_rise : IsNonDecreasingBy (λ (r : NotedRule). ordering_index (nat_cmp r.expression at)) notes
+  comparisons_rise = IsNonDecreasingBy-from_default (λ (r : NotedRule). ordering_index (nat_cmp r.expression at)) notes no_note (λ i j le lt.
+      let c = column k b h in
+      let rise : (get_or notes i no_note).expression ≤ (get_or notes j no_note).expression = ⊎_elim
+      (λ p. omega (arith, note_place i (omega (arith, counted)), note_place j (omega (arith, counted)), c.are i, c.are j, c.rises i j p (omega (arith, counted))))
+      (λ (p : j ≤ i). let e : i ≡ j = omega arith in rw e (omega arith)) (lt_or_le i j) in
+      grind (arith, nat_tests))
 
-  module _ (b : Book) (k : Known expression rules b) where
-    pub window_found : (m : ℕ) → m < rules → get_or expression m 0 ≡ at → true ≡ found (match_in at (rules_of b))
-    window_found m lt e = let c = column k in match_some at (rules_of b) m (omega (arith, c.counted)) (sym (c.are m) ∙ e)
-
-    pub window_none : (low high : ℕ) → Window expression rules at low high → high ≤ low → false ≡ found (match_in at (rules_of b))
-    window_none low high w ge = let c = column k in match_none at (rules_of b) (λ i h e. let z = c.are i in let n = c.counted in
-        ⊎_elim (λ q. omega (arith, w.below i q)) (λ q. omega (arith, w.above i (omega arith) (omega arith))) (lt_or_le i low))
+  -- a search by halves finds the place where some rule's expression starts there, and only there
+  pub searched : (r : Result ℕ ℕ) → IsSearchInRange r (length notes) → IsBinarySearchResult (λ (r : NotedRule). nat_cmp r.expression at) notes r → is_ok r ≡ found (match_in at (rules_of b))
+  searched (Ok i) lt equal =
+      let c = column k b h in
+      match_some at (rules_of b) i (omega (arith, counted, c.counted)) (sym (note_place i (omega (arith, counted))) ∙ ranked _ at _ (sym (equal no_note)))
+  searched (Err i) le parted = let c = column k b h in match_none at (rules_of b) (λ j lt e.
+      let here = note_place j (omega (arith, c.counted)) in
+      ⊎_elim
+      (λ p. let less = ranked _ at _ (sym ((parted comparisons_rise).0 j no_note (omega arith) p)) in omega arith)
+      (λ p. let more = ranked _ at _ (sym ((parted comparisons_rise).1 j no_note p (omega (arith, counted, c.counted)))) in omega arith)
+      (lt_or_le j i))

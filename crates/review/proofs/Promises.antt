@@ -17,7 +17,8 @@ use Rattle.model.specs.Progress.{whole, run, past, After, still_running, now_cer
 use native.Mathlib.Omega.{arith}
 use Rattle.review.specs.States.{state_of, SteppedBy}
 use Rattle.review.specs.declared.State.{State}
-use Rattle.review.specs.declared.Stepped.{Stepped}
+use Rattle.refusals.specs.declared.Refusal.{Refusal}
+use Rattle.std.specs.Prelude.{Result, Ok}
 use Rattle.model.proofs.Success.{fine_same}
 use Rattle.model.proofs.Headline as headline
 use Rattle.review.specs.Reviews.{review_told}
@@ -26,25 +27,25 @@ use Rattle.review.specs.declared.Reviewed.TheVariants as reviewed
 
 -- 6. A port that the review certifies drops every packet from outside its ranges, whatever the answers.
 pub certified_safe : (book plan : List ℕ) (port lent : ℕ) (ports : List Port) (ranges : Spans) → plan_of plan ≡ fine ports → ranges_of port ports ≡ fine ranges →
-    review_told reviewed.Certified ≡ review_entry book plan port lent → (answers : List ℕ) (p : matching.Packet) → p.port ≡ port → Outside ranges p.source → (v : ℕ) → chain_entry book answers p ≡ fine v → v ≡ 1
+    review_told (Ok reviewed.Certified) ≡ review_entry book plan port lent → (answers : List ℕ) (p : matching.Packet) → p.port ≡ port → Outside ranges p.source → (v : ℕ) → chain_entry book answers p ≡ fine v → v ≡ 1
 certified_safe book plan port lent ports ranges f g r = headline.certified_safe book plan port lent ports ranges f g (sym r)
 
 module _ {book plan : List ℕ} {port : ℕ} (n : Inputs book plan port) (lent : ℕ) (room : length (words_of (list_in n)) ≤ lent) where
   -- what the review answers is the whole review
-  told_whole : (r : Reviewed) → review_told r ≡ review_entry book plan port lent → review_told r ≡ fine (whole n)
+  told_whole : (r : Result Reviewed Refusal) → review_told r ≡ review_entry book plan port lent → review_told r ≡ fine (whole n)
   told_whole r e = e ∙ headline.review_answers n lent room
 
   -- 5. It certifies only where no answers to the unread places let the list accept a source outside, and there always.
-  pub certified_means : review_told reviewed.Certified ≡ review_entry book plan port lent → (x i : ℕ) → Outside n.ranges x → ¬ CanAccept port (list_in n) i x
-  certified_means e = (headline.certified_exactly n).0 (sym (fine_same (told_whole reviewed.Certified e)))
+  pub certified_means : review_told (Ok reviewed.Certified) ≡ review_entry book plan port lent → (x i : ℕ) → Outside n.ranges x → ¬ CanAccept port (list_in n) i x
+  certified_means e = (headline.certified_exactly n).0 (sym (fine_same (told_whole (Ok reviewed.Certified) e)))
 
-  pub certified_where : ((x i : ℕ) → Outside n.ranges x → ¬ CanAccept port (list_in n) i x) → review_told reviewed.Certified ≡ review_entry book plan port lent
+  pub certified_where : ((x i : ℕ) → Outside n.ranges x → ¬ CanAccept port (list_in n) i x) → review_told (Ok reviewed.Certified) ≡ review_entry book plan port lent
   certified_where h = ap fine (sym ((headline.certified_exactly n).1 h)) ∙ sym (headline.review_answers n lent room)
 
   -- It refuses with the first list rule, and there the lowest outside source, for which some answers let the list accept.
-  pub refused_means : (rule : _) (source : ℕ) → review_told (reviewed.Refused rule source) ≡ review_entry book plan port lent →
+  pub refused_means : (rule : _) (source : ℕ) → review_told (Ok (reviewed.Refused rule source)) ≡ review_entry book plan port lent →
       (i : ℕ) × (number_at (list_in n) i ≡ rule.0) × FirstAccept port (Outside n.ranges) (list_in n) i source
-  refused_means rule source e = (headline.refused_exactly n rule.0 source).0 (sym (fine_same (told_whole (reviewed.Refused rule source) e)))
+  refused_means rule source e = (headline.refused_exactly n rule.0 source).0 (sym (fine_same (told_whole (Ok (reviewed.Refused rule source)) e)))
 
 -- what a run of the model's calls gives is a state
 after_fine : {book plan : List ℕ} {port : ℕ} (n : Inputs book plan port) (k : ℕ) (a : Answer slices.State) → After n k a → (s : slices.State) × (a ≡ fine s)
@@ -54,10 +55,9 @@ after_fine n k _ (was_refused j rule source lt e w) = (past n j (model.refused r
 
 -- 7. Calls of the code one after the other, from the state that the start gives, on the same book and the words just written: after k of them the
 -- state is that of the model's k calls, so that every model theorem on slices speaks of it; and no call is refused.
-module _ {book plan : List ℕ} {port : ℕ} (n : Inputs book plan port) (state : ℕ → State) (said : ℕ → Stepped)
+module _ {book plan : List ℕ} {port : ℕ} (n : Inputs book plan port) (state : ℕ → State) (said : ℕ → Result (Unit {0}) Refusal)
     (begins : state_of (state 0) ≡ slices.start port n.ranges)
-    (calls : (k : ℕ) → SteppedBy (step_entry book (words_of (list_in n)) (state_of (state k))) (state k) (said k))
-    (next : (k : ℕ) → state (suc k) ≡ (said k).state) where
+    (calls : (k : ℕ) → SteppedBy (step_entry book (words_of (list_in n)) (state_of (state k))) (state k) (said k) (state (suc k))) where
   pub run_is : (k : ℕ) → k ≤ length (list_in n) → run n k ≡ fine (state_of (state k))
   unfolding slices.calls
   run_is zero h = ap fine (sym begins)
@@ -66,5 +66,5 @@ module _ {book plan : List ℕ} {port : ℕ} (n : Inputs book plan port) (state 
       let one : run n (suc k) ≡ step_entry book (words_of (list_in n)) (state_of (state k)) =
       ap (λ a. answer.◌>>=◌ a (slices.step n.b (words_of (list_in n)))) before ∙ sym (headline.call_answers n (words_of (list_in n)) (state_of (state k))) in
       let got = after_fine n (suc k) (run n (suc k)) (headline.slices n (suc k) h) in
-      let s : state_of (state (suc k)) ≡ got.0 = ap state_of (next k) ∙ (calls k).state ∙ ap (λ a. state_after a (state_of (state k))) (sym one ∙ got.1) in
+      let s : state_of (state (suc k)) ≡ got.0 = (calls k).state ∙ ap (λ a. state_after a (state_of (state k))) (sym one ∙ got.1) in
       got.1 ∙ ap fine (sym s)

@@ -1,15 +1,12 @@
 -- A rule that the model takes out of words stands in them, and the expressions of its conditions stand in the book. Assumes nothing.
-use Prim.Native.Nat.{ℕ, ◌+◌, ◌*◌, ◌/◌, ◌%◌, ◌≤◌}
-use mathlib.Core.Bool.{Bool, true, false, true≢false}
-use mathlib.Core.List.{List, [], ◌∷◌, ◌++◌}
+use Rattle.std.proofs.Common.{◌≡◌, ℕ, ◌+◌, ◌*◌, ◌/◌, ◌%◌, ◌≤◌, List, [], ◌∷◌, ◌++◌, length, get_or, take, drop, Bool, true, false, refl, sym, ◌∙◌, ap, ap₂, subst, arith, length-drop}
+use mathlib.Core.Bool.{true≢false}
 use mathlib.Core.Logic.{⊎_elim}
 use mathlib.Core.Option.{Option, none, some}
-use mathlib.Core.Path.{◌≡◌, refl, sym, ◌∙◌, ap, ap₂, subst}
-use native.Mathlib.Omega.{arith}
 use borrow.Author.Tests.{eqb-true, eqb-false}
 use lib.Dec.{eqb}
-use lib.ListN.{length, get_or, take, drop, take-append-drop, length-drop}
-use lib.Seq.{length-take-le}
+use lib.ListN.{take-append-drop}
+use lib.Seq.{length-take-le, drop-drop, get_or-drop}
 use Rattle.model.specs.Answer.{fine, when}
 use Rattle.model.specs.Calls.{readable}
 use Rattle.model.specs.Tree.{Expr, place_of, Rule, Book, Every, rules_of}
@@ -79,33 +76,40 @@ module _ (s : List ℕ) (b : Book) (read : readable s ≡ fine b) where
       subst (λ cs. (condition_words cs ≡ w ∷ ws) × Conditions (Placed s) cs) (same_some l.2) (ap₂ ◌∷◌ k i.0, (p.1, i.1))
 
   module _ (words : List ℕ) (place : ℕ) where
+    abbrev front : List ℕ
+    front = drop place words
+
+    -- how many conditions the words at the place say
     abbrev count : ℕ
-    count = get_or words (place + 2) 0
+    count = get_or front 2 0
 
     module _ (r : ListRule) (e : rule_at b words place ≡ some r) where
       not_none : false ≡ found (rule_at b words place) → ⊥
       not_none f = true≢false (sym (f ∙ ap found e))
 
-      three : place + 3 ≤ length words
-      three = ⊎_elim (λ h. absurd (not_none (rule_short b words place h))) (λ h. h) (lt_or_le (length words) (place + 3))
+      three : 3 ≤ length front
+      three = ⊎_elim (λ h. absurd (not_none (rule_short b front h))) (λ h. h) (lt_or_le (length front) 3)
 
-      room : place + 3 + count ≤ length words
-      room = ⊎_elim (λ h. absurd (not_none (rule_long b words place three h))) (λ h. h) (lt_or_le (length words) (place + 3 + count))
+      room : 3 + count ≤ length front
+      room = ⊎_elim (λ h. absurd (not_none (rule_long b front three h))) (λ h. h) (lt_or_le (length front) (3 + count))
 
-      action : get_or words place 0 ≤ 1
-      action = ⊎_elim (λ h. absurd (not_none (rule_other b words place three room h))) (λ h. h) (lt_or_le 1 (get_or words place 0))
+      action : get_or front 0 0 ≤ 1
+      action = ⊎_elim (λ h. absurd (not_none (rule_other b front three room h))) (λ h. h) (lt_or_le 1 (get_or front 0 0))
 
       pub rule_stands : RuleAt s words place r
       rule_stands =
-          let part = take count (drop (place + 3) words) in
-          let l = then_some (conditions_in b part) _ r (sym (rule_is b words place three room action) ∙ e) in
+          let part = take count (drop 3 front) in
+          let l = then_some (conditions_in b part) _ r (sym (rule_is b front three room action) ∙ e) in
           let i = conditions_are part l.0 l.1 in
-          let long : length l.0 ≡ count = sym (length_words l.0) ∙ ap length i.0 ∙ length-take-le count (drop (place + 3) words) (omega (arith, length-drop (place + 3) words, room)) in
-          let split : drop (place + 3) words ≡ condition_words l.0 ++ drop count (drop (place + 3) words) = sym (take-append-drop count (drop (place + 3) words)) ∙ ap (λ p. p ++ drop count (drop (place + 3) words)) (sym i.0) in
+          let long : length l.0 ≡ count = sym (length_words l.0) ∙ ap length i.0 ∙ length-take-le count (drop 3 front) (omega (arith, length-drop 3 front, room)) in
+          let split : drop (place + 3) words ≡ condition_words l.0 ++ drop count (drop 3 front) =
+          sym (drop-drop 3 place words) ∙ sym (take-append-drop count (drop 3 front)) ∙ ap (λ p. p ++ drop count (drop 3 front)) (sym i.0) in
+          let counted : count ≡ get_or words (place + 2) 0 = get_or-drop place words 2 0 in
+          let here : place + 0 ≡ place = omega arith in
           subst (RuleAt s words place) (same_some l.2) (record {
-            action = refl;
-            number = refl;
-            counted = long;
-            room = room;
-            written = written_of s words (place + 3) l.0 (drop count (drop (place + 3) words)) split i.1;
+            action = rw here at (get_or-drop place words 0 0);
+            number = get_or-drop place words 1 0;
+            counted = long ∙ counted;
+            room = omega (arith, room, length-drop place words, counted);
+            written = written_of s words (place + 3) l.0 (drop count (drop 3 front)) split i.1;
           })

@@ -1,28 +1,45 @@
 -- One rule of the list, path by path: an accept rule by the lowest suspect that may pass, a drop rule by the suspects that it leaves. Assumes nothing.
-use Prim.Native.Nat.{ℕ, ◌+◌}
-use mathlib.Core.List.{List}
-use mathlib.Core.Path.{◌≡◌, sym, ◌∙◌, subst}
-use native.Mathlib.Omega.{arith}
-use mathlib.Core.Bool.{true, false, true≢false}
+use Rattle.std.proofs.Common.{◌≡◌, ℕ, ◌+◌, ◌-◌, List, get_or, take, drop, true, false, refl, sym, ◌∙◌, ap, subst, arith, Option, Some, None, Result, Ok, Err}
+use Rattle.std.specs.Option.{option_map, MatchOption, IsSomeAnd}
+use mathlib.Core.Bool.{true≢false}
 use borrow.Author.Tests.{eq-eqb, ne_eqb}
 use lib.Dec.{eqb}
-use lib.ListN.{get_or}
-use Rattle.model.specs.Limits.{spans_most}
 use Rattle.model.specs.Unfolding.{ListRule}
 use Rattle.model.specs.Spans.{Spans}
-use Rattle.model.specs.Review.{left_after}
-use Rattle.suspects.specs.Slots.{Slots, Made}
-use Rattle.sweep.specs.declared.Lowest.{Lowest}
-use Rattle.sweep.specs.declared.Lowest.TheVariants.{At, Nothing}
-use Rattle.sweep.specs.Sweep.{Drops, Passes}
-use Rattle.review.specs.declared.Taken.TheVariants.{Refused, Left}
-use Rattle.review.specs.Taken.{RuleAt, TakesRule}
+use Rattle.model.specs.Review.{may_pass, left_after}
+use Rattle.book.specs.declared.RuleNumber.{RuleNumber}
+use Rattle.matching.specs.Conditions.{WrittenAs, Writing}
+use Rattle.matching.proofs.Words.{narrowed}
+use Rattle.suspects.specs.Slots.{writes}
+use Rattle.suspects.specs.declared.Full.{Full}
+use Rattle.suspects.specs.declared.Suspects.{Suspects}
+use Rattle.sweep.specs.Sweep.{Drops, Passes, lowest}
+use Rattle.review.specs.Taken.{RuleAt, HasRule, TakenAs, TakesRule}
 
--- slots that are full to their count are made of the set that they write
-made_same : (most : ℕ) (ss : Spans) (n : ℕ) (low high : List ℕ) → Slots most ss n low high → Made most ss n low high
-made_same most ss n low high w = record { written = λ h. w; over = λ h. absurd (omega (arith, w.count, w.fits)) }
+-- a rule's number, with the source that it refuses
+abbrev pub named : List ℕ → ℕ → ℕ → RuleNumber × ℕ
+named words at x = (record { 0 = get_or words (at + 1) 0 }, x)
 
-module _ (s words : List ℕ) (at port n : ℕ) (low high : List ℕ) where
+-- what `map` answers
+pub mapped : {A B : Type 0} (g : A → B) {Q : A → B → Type 0} (f : Option A) (m : Option B) → MatchOption f (m ≡ None) (λ x. IsSomeAnd m (Q x)) → ((x : A) (r : B) → Q x r → r ≡ g x) → m ≡ option_map g f
+mapped g None m h q = h
+mapped g (Some x) None h q = absurd h
+mapped g (Some x) (Some r) h q = ap Some (q x r h)
+
+module _ (s words : List ℕ) (at port : ℕ) (before : Suspects) where
+  -- how many words its conditions are; and these, as the code cuts them out
+  abbrev count : ℕ
+  count = at + 3 + get_or words (at + 2) 0 - (at + 3)
+
+  abbrev cut : List ℕ
+  cut = take count (drop (at + 3) words)
+
+  written : (r : ListRule) → RuleAt s words at r → WrittenAs s cut r.conditions
+  written r h = narrowed s words (at + 3) count (omega (arith, h.room)) r.conditions (omega (arith, h.counted)) h.written
+
+  pub has_writing : HasRule s words at → Writing s cut
+  has_writing h = record { conditions = h.rule.conditions; are = written h.rule h.stands }
+
   module _ (zero : get_or words at 0 ≡ 0) where
     accepts : (r : ListRule) → RuleAt s words at r → eqb r.action 0 ≡ true
     accepts r h = eq-eqb r.action 0 (h.action ∙ zero)
@@ -30,20 +47,22 @@ module _ (s words : List ℕ) (at port n : ℕ) (low high : List ℕ) where
     keeps : (r : ListRule) → RuleAt s words at r → (ss : Spans) → left_after port r ss ≡ ss
     keeps r h ss = rw (accepts r h)
 
-    module _ (f : Lowest) (p : Passes s words (at + 3) (get_or words (at + 2) 0) port low high n f) where
-      pub take_refuses : (x : ℕ) → f ≡ At x → TakesRule s words at port n low high (Refused (record { 0 = get_or words (at + 1) 0 }) x) low high
-      take_refuses x e r h ss top rise w = (accepts r h, sym h.number, sym (p r.conditions h.counted h.written ss top rise w) ∙ e)
+    pub takes_first : (f : Option ℕ) → Passes s cut port before f → TakesRule s words at port before (Ok (option_map (named words at) f)) before
+    takes_first f p r h ss top rise w = go f (p r.conditions (written r h) ss top rise w)
+      where
+        go : (f : Option ℕ) → f ≡ lowest (may_pass port r ss) → TakenAs port r ss before (Ok (option_map (named words at) f)) before
+        go (Some x) q = (accepts r h, sym h.number, sym q, refl)
+        go None q = (λ a. sym q, subst (writes before) (sym (keeps r h ss)) w)
 
-      pub take_passes : f ≡ Nothing → TakesRule s words at port n low high (Left n) low high
-      take_passes e r h ss top rise w = (
-        λ q. sym (p r.conditions h.counted h.written ss top rise w) ∙ e,
-        subst (λ l. Made spans_most l n low high) (sym (keeps r h ss)) (made_same spans_most ss n low high w),
-      )
+  module _ (other : get_or words at 0 ≡ 0 → ⊥) (f : Result Suspects Full) (d : Drops s cut port before f) where
+    is_other : (r : ListRule) → RuleAt s words at r → eqb r.action 0 ≡ false
+    is_other r h = ne_eqb r.action 0 (λ q. other (sym h.action ∙ q))
 
-  pub take_drops : (get_or words at 0 ≡ 0 → ⊥) → (m : ℕ) (low' high' : List ℕ) → Drops s words (at + 3) (get_or words (at + 2) 0) port low high n m low' high'
-      → TakesRule s words at port n low high (Left m) low' high'
-  take_drops ne m low' high' d r h ss top rise w =
-      let q : eqb r.action 0 ≡ false = ne_eqb r.action 0 (λ e. ne (sym h.action ∙ e)) in (
-        λ e. absurd (true≢false (sym e ∙ q)),
-        rw q (d r.conditions h.counted h.written ss top rise w),
-      )
+    pub takes_rest : (left : Suspects) → f ≡ Ok left → TakesRule s words at port before (Ok None) left
+    takes_rest left q r h ss top rise w = (
+      λ a. absurd (true≢false (sym a ∙ is_other r h)),
+      rw (is_other r h) (rw q at (d r.conditions (written r h) ss top rise w)),
+    )
+
+    pub takes_full : (full : Full) → f ≡ Err full → TakesRule s words at port before (Err full) before
+    takes_full full q r h ss top rise w = (rw (is_other r h) (rw q at (d r.conditions (written r h) ss top rise w)), refl)

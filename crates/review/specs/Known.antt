@@ -1,33 +1,26 @@
--- The places of a book's expressions, as its contents have them, by which words are told to be conditions. Definitions only.
-use Rattle.std.specs.Prelude.{ℕ, Bool, true, false, List, ◌≡◌}
+-- A book's contents, by which words are told to be conditions. Definitions only.
+use Rattle.std.specs.Prelude.{Bool, true, false, List, ℕ, ◌≡◌}
 use Rattle.std.proofs.Math.Option.{Option, none, some}
 use Rattle.model.specs.Answer.{fine}
 use Rattle.model.specs.Tree.{Book}
 use Rattle.model.specs.Calls.{readable}
 use Rattle.book.specs.Contents.{contents_of}
+use Rattle.book.specs.declared.Contents.{Contents}
 
 abbrev pub found : {A : Type 0} → Option A → Bool
 found none = false
 found (some a) = true
 
--- these are the places of the expressions of a book that was read out of some bytes
-pub record Known (expression : List ℕ) (rules : ℕ) (b : Book) : Type 0 where
+-- these are the contents of a book that was read out of some bytes
+pub record Known (k : Contents) (b : Book) : Type 0 where
   pub bytes : List ℕ
   pub read : readable bytes ≡ fine b
-  pub column : expression ≡ (contents_of b).expression
-  pub total : rules ≡ (contents_of b).rules
+  pub contents : k ≡ contents_of b
 
 -- of some book, and of whatever book has them
-pub record HasBook (expression : List ℕ) (rules : ℕ) : Type 0 where
+pub record HasBook (k : Contents) : Type 0 where
   pub book : Book
-  pub known : Known expression rules book
+  pub known : Known k book
 
-abbrev pub OfBook : List ℕ → ℕ → (Book → Type 0) → Type 0
-OfBook expression rules goal = (b : Book) → Known expression rules b → goal b
-
--- of a book that was read out of these bytes
-pub record ReadFrom (s expression : List ℕ) (rules : ℕ) : Type 0 where
-  pub book : Book
-  pub read : readable s ≡ fine book
-  pub column : expression ≡ (contents_of book).expression
-  pub total : rules ≡ (contents_of book).rules
+abbrev pub OfBook : Contents → (Book → Type 0) → Type 0
+OfBook k goal = (b : Book) → Known k b → goal b

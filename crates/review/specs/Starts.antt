@@ -1,24 +1,23 @@
 -- What the start of a review answers, in the order of its refusals. Definitions only.
-use Rattle.std.specs.Prelude.{ℕ, List, [], ◌≡◌}
+use Rattle.std.specs.Prelude.{ℕ, List, ◌≡◌, Result}
 use Rattle.model.specs.Answer.{Answer, fine, refused, ◌>>=◌}
 use Rattle.model.specs.Tree.{Book}
-use Rattle.model.specs.Plan.{plan_of, ranges_of}
 use Rattle.model.specs.Spans.{Spans}
-use Rattle.model.specs.Review as model
-use Rattle.model.specs.Slices as slices
-use Rattle.model.specs.Slices.{written}
+use Rattle.model.specs.Plan.{plan_of, ranges_of}
 use Rattle.model.specs.Entries as entries
 use Rattle.model.specs.Entries.{room, started, filled}
-use Rattle.listing.specs.declared.Listed.{Listed}
-use Rattle.listing.specs.declared.Listed.TheVariants as listed
-use Rattle.review.specs.declared.State.{State}
-use Rattle.review.specs.declared.Started.{Started}
+use Rattle.refusals.specs.Refusals.{told_as}
+use Rattle.refusals.specs.declared.Refusal.{Refusal}
+use Rattle.listing.specs.Listings.{counts}
 use Rattle.review.specs.States.{state_of}
+use Rattle.review.specs.declared.Started.{Started}
 
--- the answer in document 01's numbers
-abbrev pub start_told : Listed → State → Answer entries.Started
-start_told (listed.Counts w n) s = fine (record { counts = record { words = w; rules = n }; state = state_of s })
-start_told (listed.Refused n p) s = refused n p
+-- the answer in the model's words
+abbrev pub started_of : Started → entries.Started
+started_of s = record { counts = counts s.counts; state = state_of s.state }
+
+abbrev pub start_told : Result Started Refusal → Answer entries.Started
+start_told = told_as started_of
 
 -- once the port's ranges are known, and once the book is read
 abbrev pub start_on : Book → Spans → ℕ → ℕ → Answer entries.Started
@@ -37,16 +36,7 @@ abbrev pub leaves : Answer entries.Started → Book → List ℕ → List ℕ
 leaves (fine a) b lent = filled lent (fine b)
 leaves (refused n p) b lent = lent
 
--- the state beside a refusal is refused, whatever the port
-abbrev pub no_state : slices.State
-no_state = written 0 [] 0 (model.refused 0 0)
-
-pub record NotStarted (n p : ℕ) (r : Started) : Type 0 where
-  pub answer : r.answer ≡ listed.Refused n p
-  pub state : state_of r.state ≡ no_state
-
 -- the answer is a, and the lent words are left as w
-pub record Starts (a : Answer entries.Started) (w : List ℕ) (r : Started) (after : List ℕ) : Type 0 where
-  pub answer : start_told r.answer r.state ≡ a
+pub record Starts (a : Answer entries.Started) (w : List ℕ) (r : Result Started Refusal) (after : List ℕ) : Type 0 where
+  pub answer : start_told r ≡ a
   pub lent : after ≡ w
-  pub stopped : (n p : ℕ) → a ≡ refused n p → state_of r.state ≡ no_state

@@ -1,4 +1,4 @@
-pub mod Beginnings
+-- What the proofs of this crate cite.
 pub mod Laws
 pub mod RoundTrip
 pub mod Slots

@@ -1,33 +1,38 @@
--- The loops over the slots of a state: one more slot is taken over, or put in.
-use Prim.Native.Nat.{ℕ, ◌+◌, ◌<◌}
-use native.Mathlib.Omega.{arith}
-use native.Mathlib.Nat.{zero-add}
-use native.Mathlib.Numerals.{add-one}
-use mathlib.Core.List.{List, ◌++◌, append_assoc, append-nil}
-use mathlib.Core.Path.{◌≡◌, ap, sym, ◌∙◌}
-use lib.ListN.{length, get_or, take, drop, set, length-append, length-take, length-drop}
-use lib.Seq.{take-suc, take-suc-set, get_or-drop, drop-length}
-use Rattle.model.specs.Filling.{put}
-use Rattle.model.proofs.Filling.{put_put, put_front, put_snoc}
+-- Three parts that are written next to each other, where there is room for no more, are all there is. Assumes nothing.
+use Rattle.std.proofs.Common.{◌≡◌, ℕ, ◌+◌, List, [], ◌++◌, length, take, drop, sym, ◌∙◌, ap, ap₂, arith, append_assoc, length-append, length-drop}
+use borrow.Rule.Slice.PartMut.{post_of, put_mid}
+use lib.ListN.{drop_of_length-le}
+use mathlib.Core.List.{append-nil}
+use Rattle.std.proofs.Math.Seq.{take-append_seam}
+use Rattle.std.proofs.lemmas.Slice.{take-put_mid}
 
-pub take_more : (ws out : List ℕ) (from i : ℕ) → i < length out → from + i < length ws → take i out ≡ take i (drop from ws) →
-    take (i + 1) (set out i (get_or ws (from + i) 0)) ≡ take (i + 1) (drop from ws)
-take_more ws out from i h k e =
-    rw (add-one, take-suc-set out i (get_or ws (from + i) 0) h, take-suc (drop from ws) i 0 (simp length-drop (omega arith)), get_or-drop from ws i 0, e)
+module _ (w h l r : List ℕ) (n m : ℕ) (head : length h ≡ n) (lows : length l ≡ m) (highs : length r ≡ m) (all : length w ≡ n + (m + m)) where
+  abbrev first : List ℕ
+  first = h ++ post_of 0 n w
 
-pub put_more : (ws out slots : List ℕ) (from i : ℕ) → i < length slots → from + i < length ws → out ≡ put ws from (take i slots) →
-    set out (from + i) (get_or slots i 0) ≡ put ws from (take (i + 1) slots)
-put_more ws out slots from i h k e =
-    let n : length (take i slots) ≡ i = simp length-take (omega arith) in
-    rw (e, put_snoc ws from (take i slots) (from + i) (get_or slots i 0) (omega arith) (omega arith), add-one, take-suc slots i 0 h)
+  abbrev second : List ℕ
+  second = put_mid n m first l
 
--- three parts put in next to each other, where there is room for no more, are all there is
-pub put_parts : (w a b c : List ℕ) (m n : ℕ) → m ≡ length a → n ≡ m + length b → length w ≡ n + length c → put (put (put w 0 a) m b) n c ≡ a ++ (b ++ c)
-put_parts w a b c m n p q r =
-    let z : 0 + length a ≡ length a = zero-add (length a) in
-    let l : length (a ++ b) ≡ n = simp length-append (omega arith) in
-    let f : put (put w 0 a) m b ≡ put w 0 (a ++ b) = ap (λ k. put (put w 0 a) k b) (p ∙ sym z) ∙ put_put w 0 a b (omega arith) in
-    let g : put (put w 0 (a ++ b)) n c ≡ put w 0 ((a ++ b) ++ c) =
-    ap (λ k. put (put w 0 (a ++ b)) k c) (sym l ∙ sym (zero-add (length (a ++ b)))) ∙ put_put w 0 (a ++ b) c (omega arith) in
-    let e : length ((a ++ b) ++ c) ≡ length w = simp length-append (omega arith) in
-    rw f (g ∙ put_front w ((a ++ b) ++ c) ∙ rw (e, drop-length) (append-nil ((a ++ b) ++ c) ∙ append_assoc a b c))
+  first_long : length first ≡ n + (m + m)
+  first_long = omega (arith, length-append h (post_of 0 n w), length-drop n (drop 0 w), length-drop 0 w)
+
+  first_head : take n first ≡ h
+  first_head = ap (λ k. take k first) (sym head) ∙ take-append_seam h (post_of 0 n w)
+
+  second_head : take (n + m) second ≡ h ++ l
+  second_head = take-put_mid n m first l (n + m) (omega arith) (omega (arith, first_long)) ∙ ap (λ x. x ++ l) first_head
+
+  second_end : post_of (n + m) m second ≡ []
+  second_end = drop_of_length-le (drop (n + m) second) (omega (
+    arith,
+    length-drop (n + m) second,
+    length-append (take n first) (l ++ post_of n m first),
+    length-append l (post_of n m first),
+    length-drop m (drop n first),
+    length-drop n first,
+    first_long,
+    ap length first_head,
+  ))
+
+  pub parts_are : put_mid (n + m) m second r ≡ h ++ (l ++ r)
+  parts_are = ap₂ ◌++◌ second_head (ap (λ x. r ++ x) second_end ∙ append-nil r) ∙ append_assoc h l r

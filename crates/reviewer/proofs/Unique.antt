@@ -6,9 +6,9 @@ use lib.ListN.{length}
 use Rattle.model.specs.Answer.{Answer}
 use Rattle.model.specs.Entries.{check_entry, unfold_entry, chain_entry, list_entry, closure_entry, review_entry, Started, start_entry, words_after}
 use Rattle.model.specs.Report.{report}
-use Rattle.report.specs.Reports.{report_entry, text_after}
+use Rattle.report.specs.Reports.{report_entry, answer_of, text_after}
 use Rattle.rules.specs.Rules.{rule_bounds}
-use Rattle.reviewer.specs.Words.{check_words, rule_words, unfold_words, packet_in, verdict_words, closure_of, report_answer, report_words}
+use Rattle.reviewer.specs.Words.{check_words, rule_words, unfold_words, packet_in, verdict_words, closure_of, report_words}
 use Rattle.reviewer.specs.StateWords.{review_words, start_words, start_state, step_over, step_words, state_words_after}
 
 module _ (x y : List ℕ) where
@@ -62,7 +62,7 @@ one_start book plan port lent state x y s t w v p q = (p.0 ∙ sym q.0, p.1 ∙ 
 -- the answer's words, the text, and the lent words
 abbrev pub Reports : List ℕ → List ℕ → List ℕ → List ℕ → List ℕ → List ℕ → List ℕ → Type 0
 Reports book plan lent text answer after words =
-    (answer ≡ report_words (report_answer (report book plan (length lent)) (length text))) × (after ≡ text_after (report book plan (length lent)) text)
+    (answer ≡ report_words (answer_of (report book plan (length lent)) (length text))) × (after ≡ text_after (report book plan (length lent)) text)
     × (words ≡ words_after (report_entry book plan (length lent)) book lent)
 
 pub one_report : (book plan lent text x y s t w v : List ℕ) → Reports book plan lent text x s w → Reports book plan lent text y t v → (x ≡ y) × (s ≡ t) × (w ≡ v)

@@ -1,5 +1,5 @@
 -- The state of a review in slices as words.
-use Rattle.std.specs.Prelude.{ℕ, ◌+◌, List, ◌∷◌, ◌++◌, get_or, take, drop, leb, eqb}
+use Rattle.std.specs.Prelude.{ℕ, ◌+◌, ◌≤◌, ◌<◌, ◌≡◌, List, ◌∷◌, ◌++◌, get_or, take, drop, leb, eqb, Option, Some, None}
 use Rattle.model.specs.Limits.{spans_most}
 use Rattle.model.specs.Answer.{Answer, fine, refused, ◌>>=◌, when}
 use Rattle.model.specs.Calls.{readable}
@@ -7,6 +7,9 @@ use Rattle.model.specs.Review as phase
 use Rattle.model.specs.Review.{Phase, running, certified}
 use Rattle.model.specs.Slices.{State}
 use Rattle.model.specs.Entries.{step_entry, Started}
+use Rattle.review.specs.States.{phase_of, state_of}
+use Rattle.review.specs.declared.Phase as review_phase
+use Rattle.review.specs.declared.State as review_state
 use Rattle.reviewer.specs.Words.{word, given_words, answer_words, count_words}
 
 -- a phase by its number, and the rule and source that a refused one names
@@ -48,6 +51,15 @@ state_in ws = record {
   high = take spans_most (drop (state_head + spans_most) ws);
   phase = phase_in (get_or ws 2 0) (get_or ws 3 0) (get_or ws 4 0);
 }
+
+-- what is read of a phase's number, and of a state's words: nothing where the number is none
+abbrev pub PhaseRead : ℕ → ℕ → ℕ → Option review_phase.Phase → Type 0
+PhaseRead number rule source None = 2 < number
+PhaseRead number rule source (Some p) = (number ≤ 2) × (phase_of p ≡ phase_in number rule source)
+
+abbrev pub StateRead : List ℕ → Option review_state.State → Type 0
+StateRead ws None = 2 < get_or ws 2 0
+StateRead ws (Some st) = (get_or ws 2 0 ≤ 2) × (state_of st ≡ state_in ws)
 
 -- 1 to 10, then 14 where the phase's number is none: it is no state. Then as one call of the review in slices
 abbrev pub state_read : List ℕ → Answer State

@@ -1,5 +1,5 @@
 -- What each exported function writes into the six words of `answer`: the refusal's number and place, or 0 and 0; then the values; the rest 0.
-use Rattle.std.specs.Prelude.{ℕ, Bool, List, [], ◌∷◌, length, get_or, leb, eqb}
+use Rattle.std.specs.Prelude.{ℕ, Bool, List, [], ◌∷◌, get_or, leb, eqb}
 use Rattle.model.specs.Limits.{greatest}
 use Rattle.model.specs.Answer.{Answer, fine, refused, when}
 use Rattle.model.specs.Matching.{Packet}
@@ -49,9 +49,6 @@ verdict_words = answer_words (λ v. given_words v 0 0)
 abbrev pub closure_of : ℕ → ℕ → Bool
 closure_of number = when (eqb number 0) lower upper
 
--- the report: its bytes, or 19 with the bytes needed where the lent text is too short for them
-abbrev pub report_answer : List ℕ → ℕ → Answer ℕ
-report_answer text lent = when (leb (length text) lent) (fine (length text)) (refused 19 (length text))
-
+-- the report: its bytes
 abbrev pub report_words : Answer ℕ → List ℕ
 report_words = answer_words (λ n. given_words (word n) 0 0)

@@ -1,43 +1,44 @@
 // The verdicts' answers in words.
 ghost use Rattle.std.specs.Prelude.{◌≡◌, length};
 ghost use Rattle.model.specs.Entries.{chain_entry, list_entry, closure_entry, words_after};
-ghost use Rattle.walks.specs.Packets.{packet_of, tactic};
-ghost use Rattle.verdicts.specs.Verdicts.{told};
+ghost use Rattle.walks.specs.Packets.{packet_of, tactic_of};
+ghost use Rattle.verdicts.specs.Verdicts.{verdict_told};
 ghost use Rattle.reviewer.specs.Words.{packet_in, verdict_words, closure_of};
 
-use super::words::{given, refusal};
-use verdicts::Verdict;
-use walks::Packet;
+use super::words::{given, refused};
+use book::Verdict;
+use refusals::Refusal;
+use walks::{Packet, Tactic};
 
-fn verdict_words(v: Verdict) -> [u32; 6]
-    ensures { result ≡ verdict_words (told v) }
+fn verdict_words(verdict: Result<Verdict, Refusal>) -> [u32; 6]
+    ensures { result ≡ verdict_words (verdict_told verdict) }
 {
-    match v {
-        Verdict::Refused(n, place) => refusal(n, place),
-        Verdict::Accept => given(0, 0, 0),
-        Verdict::Drop => given(1, 0, 0),
+    match verdict {
+        Ok(verdict) => given(verdict.number(), 0, 0),
+        Err(refusal) => refused(refusal),
     }
 }
 
 fn packet_in(words: &[u32; 5]) -> Packet
     ensures { packet_of result ≡ packet_in words.now }
 {
+    let [source, destination, protocol, service, port] = *words;
     Packet {
-        source: words[0],
-        destination: words[1],
-        protocol: words[2],
-        service: words[3],
-        port: words[4],
+        source,
+        destination,
+        protocol,
+        service,
+        port,
     }
 }
 
-fn is_upper(number: u32) -> bool
-    ensures { tactic result ≡ closure_of number }
+fn tactic_in(number: u32) -> Tactic
+    ensures { tactic_of result ≡ closure_of number }
 {
-    if number == 0 {
-        return false;
+    match number {
+        0 => Tactic::Lower,
+        _ => Tactic::Upper,
     }
-    true
 }
 
 // The verdict of the chains.
@@ -83,6 +84,5 @@ pub extern "C" fn tannenlaut_closure(
     ensures lent { words.new ≡ words_after (closure_entry (closure_of upper) book.now (packet_in packet.now) (length words.old)) book.now words.old }
 {
     let p = packet_in(packet);
-    let which = is_upper(upper);
-    *answer = verdict_words(verdicts::closure(book, which, p, words));
+    *answer = verdict_words(verdicts::closure(book, tactic_in(upper), p, words));
 }

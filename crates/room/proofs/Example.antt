@@ -3,7 +3,6 @@ use Prim.Native.Nat.{ℕ, zero, suc, ◌+◌, ◌≤◌, ◌<◌}
 use native.Mathlib.Omega.{arith}
 use mathlib.Core.Path.{◌≡◌, refl}
 use mathlib.Core.List.{List, [], ◌∷◌}
-use lib.ListN.{get_or}
 use Rattle.model.specs.Tree.{Book}
 use Rattle.model.specs.Tree.Action.{accept, return, call}
 use Rattle.model.specs.Tree.Expr.{always, leaf}
@@ -11,9 +10,12 @@ use Rattle.model.specs.Tree.Leaf.{source}
 use Rattle.model.specs.Calls.{lowest_loop, weight}
 use Rattle.model.specs.Unfolding.{list_of, words_of}
 use Rattle.model.proofs.LoopsExact.{lowest_none}
-use Rattle.book.specs.Contents.{Charted}
+use Rattle.book.specs.Contents.{chain_number, action_at, first_of, Charted}
+use Rattle.book.specs.declared.Contents.{Contents}
+use Rattle.book.specs.declared.Action.TheVariants.{Accept, Return, Call}
+use Rattle.book.specs.declared.Verdict.TheVariants as verdict
 use Rattle.calls.specs.Checked.{Passes}
-use Rattle.calls.specs.Weights.{rank_in, Ranked}
+use Rattle.calls.specs.Weights.{rank_in, CallAt, Ranked}
 use Rattle.room.specs.Counting.{chain_need, need_of}
 
 book : Book
@@ -27,17 +29,16 @@ book = record {
       ) ∷ (record { number = 2; place = 12; action = accept; match = always 13; next = 14 } ∷ []) ∷ [];
 }
 
-first : List ℕ
-first = 0 ∷ 2 ∷ 3 ∷ []
-
-action : List ℕ
-action = 5 ∷ 6 ∷ 0 ∷ []
-
-target : List ℕ
-target = 0 ∷ 1 ∷ 0 ∷ []
-
-expression : List ℕ
-expression = 5 ∷ 10 ∷ 13 ∷ []
+contents : Contents
+contents = record {
+  policy = verdict.Drop;
+  chains = 2;
+  rules = 3;
+  first = 0 ∷ 2 ∷ 3 ∷ [];
+  noted = record { place = 4; action = Return; expression = 5; end = 8 }
+      ∷ record { place = 8; action = Call (chain_number 1); expression = 10; end = 11 }
+      ∷ record { place = 12; action = Accept; expression = 13; end = 14 } ∷ [];
+}
 
 ranks : List ℕ
 ranks = 1 ∷ 0 ∷ []
@@ -47,22 +48,24 @@ below_two P a b zero h = a
 below_two P a b (suc zero) h = b
 below_two P a b (suc (suc n)) h = absurd (omega arith)
 
-below_three : (P : ℕ → Type 0) → P 0 → P 1 → P 2 → (c : ℕ) → c < 3 → P c
-below_three P a b c zero h = a
-below_three P a b c (suc zero) h = b
-below_three P a b c (suc (suc zero)) h = c
-below_three P a b c (suc (suc (suc n))) h = absurd (omega arith)
+-- its one call
+called : (i d : ℕ) → i < 3 → action_at contents i ≡ call d → (i ≡ 1) × (d ≡ 1)
+unfolding contents
+called zero d h q = absurd (let z : ◌≡◌ {A = ℕ} 0 1 = cc in omega arith)
+called (suc zero) d h q = (refl, cc)
+called (suc (suc zero)) d h q = absurd (let z : ◌≡◌ {A = ℕ} 0 1 = cc in omega arith)
+called (suc (suc (suc n))) d h q = absurd (omega arith)
 
-charted : Charted book first action target expression 2 3
-unfolding book first action target expression
+charted : Charted book contents
+unfolding book contents
 charted = record {
   shape = record {
     some = omega arith;
     few = omega arith;
     room = omega arith;
-    rising = below_two (λ c. get_or first c 0 ≤ get_or first (c + 1) 0) (omega arith) (omega arith);
-    inside = below_two (λ c. get_or first (c + 1) 0 ≤ 3) (omega arith) (omega arith);
-    known = below_three (λ i. get_or action i 0 ≡ 6 → get_or target i 0 < 2) (λ q. omega arith) (λ q. omega arith) (λ q. omega arith);
+    rising = below_two (λ c. first_of contents c ≤ first_of contents (c + 1)) (omega arith) (omega arith);
+    inside = below_two (λ c. first_of contents (c + 1) ≤ 3) (omega arith) (omega arith);
+    known = λ i d h q. let e = called i d h q in omega arith;
   };
   count = refl;
   total = refl;
@@ -72,12 +75,12 @@ charted = record {
       (record { number = refl; act = refl; match = refl }, tt);
 }
 
-ranked : Ranked first action target 2 (rank_in ranks)
-unfolding first action target ranks
+ranked : Ranked contents (rank_in ranks)
+unfolding contents ranks
 ranked = record {
-  falls = λ c i lt. below_two (λ c. get_or first c 0 ≤ i → i < get_or first (c + 1) 0 → get_or action i 0 ≡ 6 → rank_in ranks (get_or target i 0) < rank_in ranks c)
-      (λ a l. below_two (λ i. get_or action i 0 ≡ 6 → rank_in ranks (get_or target i 0) < 1) (λ q. absurd (omega arith)) (λ q. omega arith) i l)
-      (λ a l. below_three (λ i. 2 ≤ i → get_or action i 0 ≡ 6 → rank_in ranks (get_or target i 0) < 0) (λ g q. absurd (omega arith)) (λ g q. absurd (omega arith)) (λ g q. absurd (omega arith)) i l a)
+  falls = λ c i d lt. below_two (λ c. CallAt contents c i d → rank_in ranks d < rank_in ranks c)
+      (λ q. let e = called i d (omega (arith, q.to)) q.calls in rw e.1 (omega arith))
+      (λ q. let e = called i d (omega (arith, q.to)) q.calls in absurd (omega (arith, q.from)))
       c lt;
   below = below_two (λ c. rank_in ranks c < 2) (omega arith) (omega arith);
 }

@@ -2,7 +2,7 @@ pub mod Linear
 pub mod Bounded
 pub mod Recursive
 pub mod Caps
-pub mod Numbers
+pub mod Actions
 pub mod Steps
 pub mod Ranks
 pub mod Exact

@@ -7,6 +7,7 @@ use Rattle.model.specs.Calls.{chain_of, CallIn, here, later, LoopFree}
 use Rattle.model.specs.Tree.{Rule, Book, Action}
 use Rattle.model.specs.Tree.Action.{accept, drop, reject, log, empty, return, call}
 use Rattle.model.proofs.DepthEnough.{recursive}
+use Rattle.book.specs.declared.Contents.{Contents}
 use Rattle.calls.specs.Actions.{Actions}
 use Rattle.calls.specs.Weights.{Ranked}
 use Rattle.room.specs.declared.Need.{Need}
@@ -46,8 +47,7 @@ module _ (b : Book) (free : LoopFree b) where
   need_recursive = recursive b free nothing (λ f rs. counted f 1 (actions_of rs)) (λ n. chain_need n b) first then none (counted_local 1)
 
 -- the model's need counts by any ranks
-pub counting : {b : Book} {first action target : List ℕ} {chains rules : ℕ} → Actions b first action target chains rules → LoopFree b → {rank : ℕ → ℕ} → Ranked first action target chains rank
-    → Counting first action target chains rank (chain_need (length b.chains) b)
+pub counting : {b : Book} {k : Contents} → Actions b k → LoopFree b → {rank : ℕ → ℕ} → Ranked k rank → Counting k rank (chain_need (length b.chains) b)
 counting {b} acts free by = record {
   ranked = by;
   recursive = λ c lt. rw (← acts.actions c lt) (need_recursive b free c);

@@ -1,11 +1,12 @@
 -- Needs up to the greatest that a book may have: above it, that one stands for all.
 use Rattle.std.specs.Prelude.{ℕ, ◌+◌, ◌*◌, ◌≤◌, ◌<◌, min, ◌≡◌, List, length, get_or}
 use Rattle.model.specs.Limits.{chains_most, weight_most}
-use Rattle.book.specs.Contents.{rules_in}
+use Rattle.book.specs.Contents.{first_of, rules_in}
+use Rattle.book.specs.declared.Contents.{Contents}
 use Rattle.calls.specs.Actions.{actions_at}
-use Rattle.calls.specs.Weights.{Ranked}
+use Rattle.calls.specs.Weights.{Ranked, CallAt}
 use Rattle.room.specs.declared.Need.{Need}
-use Rattle.room.specs.Counting.{counted}
+use Rattle.room.specs.Counting.{counted, nothing}
 
 -- a chain of weight w puts in at most w rules, each of three words and at most w conditions
 abbrev pub need_most : ℕ
@@ -21,24 +22,22 @@ pub record Small (n : Need) : Type 0 where
   pub rules : n.rules ≤ need_most
   pub words : n.words ≤ need_most
 
--- what two arrays hold of each chain
-abbrev pub kept : List ℕ → List ℕ → ℕ → Need
-kept counts words c = record { rules = get_or counts c 0; words = get_or words c 0 }
+-- what is kept of each chain
+abbrev pub kept : List Need → ℕ → Need
+kept needs c = get_or needs c nothing
 
-pub record Kept (counts words : List ℕ) : Type 0 where
-  pub counts_size : length counts ≡ chains_most
-  pub words_size : length words ≡ chains_most
-  pub small : (c : ℕ) → Small (kept counts words c)
+pub record Kept (needs : List Need) : Type 0 where
+  pub size : length needs ≡ chains_most
+  pub small : (c : ℕ) → Small (kept needs c)
 
 -- of the chains that c calls g has what f says
-abbrev pub Known : (first action target : List ℕ) → (f g : ℕ → Need) → ℕ → Type 0
-Known first action target f g c =
-    (i : ℕ) → get_or first c 0 ≤ i → i < get_or first (c + 1) 0 → get_or action i 0 ≡ 6 → g (get_or target i 0) ≡ least (f (get_or target i 0))
+abbrev pub Known : Contents → (f g : ℕ → Need) → ℕ → Type 0
+Known k f g c = (i d : ℕ) → CallAt k c i d → g d ≡ least (f d)
 
 -- f counts each chain by those that it calls, and the calls rank
-pub record Counting (first action target : List ℕ) (chains : ℕ) (rank : ℕ → ℕ) (f : ℕ → Need) : Type 0 where
-  pub ranked : Ranked first action target chains rank
-  pub recursive : (c : ℕ) → c < chains → f c ≡ counted f 1 (actions_at action target (get_or first c 0) (rules_in first c))
+pub record Counting (k : Contents) (rank : ℕ → ℕ) (f : ℕ → Need) : Type 0 where
+  pub ranked : Ranked k rank
+  pub recursive : (c : ℕ) → c < k.chains → f c ≡ counted f 1 (actions_at k (first_of k c) (rules_in k c))
 
 -- of the chains of a rank below the level g has what f says
 abbrev pub Upto : ℕ → (ℕ → ℕ) → (ℕ → Need) → ℕ → (ℕ → Need) → Type 0

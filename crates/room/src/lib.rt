@@ -1,25 +1,20 @@
 // How many rules and words the unfolded list needs, without unfolding: over a read book's contents, each chain counted once.
 #![tactic(auto)]
 
-ghost use Rattle.std.specs.Prelude.{◌≡◌, ℕ, ◌+◌, ◌<◌, ◌≤◌, List, get_or};
+ghost use Rattle.std.specs.Prelude.{◌≡◌, ℕ, ◌+◌, ◌<◌, ◌≤◌};
 ghost use Rattle.model.specs.Limits.{chains_most};
 ghost use Rattle.model.specs.Tree.{Book};
-ghost use Rattle.book.specs.Contents.{Shape, Charted, action_of, rules_in};
+ghost use Rattle.book.specs.Contents.{said, Shape, Charted, first_of, rules_in};
+ghost use Rattle.book.specs.declared.ChainNumber.{ChainNumber};
+ghost use Rattle.book.specs.declared.Action.TheVariants.{Call};
 ghost use Rattle.calls.specs.Actions.{actions_at};
 ghost use Rattle.calls.specs.Weights.{rank_in, Ranked};
 ghost use Rattle.calls.specs.Checked.{Passes};
 ghost use Rattle.room.specs.declared.Need.{Need};
 ghost use Rattle.room.specs.Counting.{put, counted, need_of};
-ghost use Rattle.room.specs.Capped.{need_most, capped, least, Small, Kept, kept, Known, Counting, Upto};
+ghost use Rattle.room.specs.Capped.{need_most, least, Small, Kept, kept, Known, Counting, Upto};
 
-use book::{CHAINS, RULES, STARTS};
-
-// Document 01's numbers of the actions; log, empty and return stand between reject and call, and leave nothing in the list.
-const REJECT: u8 = 2;
-
-const RETURN: u8 = 5;
-
-const CALL: u8 = 6;
+use book::{Action, CHAINS, Contents};
 
 // A list rule's words before its conditions: action, rule number, count.
 const HEAD: usize = 3;
@@ -32,146 +27,82 @@ const WEIGHT: usize = calls::WEIGHT as usize;
 const MOST: usize = WEIGHT * (WEIGHT + HEAD);
 
 // Of a chain under no condition of its callers, or of the whole list.
-#[derive(Clone, Copy)]
+#[derive(Clone, Copy, PartialEq, Eq)]
 pub struct Need {
     pub rules: usize,
     pub words: usize,
 }
 
-fn up_to_most(n: usize) -> usize
-    ensures { result ≡ capped n }
-{
-    if n < MOST {
-        return n;
-    }
-    MOST
-}
+// Of no rule, and of one that leaves nothing in the list.
+const NOTHING: Need = Need { rules: 0, words: 0 };
 
 // What one rule puts into the list, before the conditions of its chain: a call puts what the called chain does.
-fn put_by<'a>(
-    action: u8,
-    target: u8,
-    counts: &'a [usize; CHAINS],
-    words: &'a [usize; CHAINS],
-) -> Need
-    requires { action ≡ 6 → target < chains_most }
-    ensures { result ≡ put (kept counts.now words.now) (action_of action target) }
+fn put_by(action: Action, needs: &[Need; CHAINS]) -> Need
+    requires { (d : ChainNumber) → action ≡ Call d → d.0 < chains_most }
+    ensures { result ≡ put (kept needs.now) (said action) }
 {
-    if action == CALL {
-        let called = target as usize;
-        let its_rules = counts[called];
-        let its_words = words[called];
-        return Need {
-            rules: its_rules,
-            words: its_words,
-        };
-    }
-    if action > REJECT && action < CALL {
-        return Need { rules: 0, words: 0 };
-    }
-    Need {
-        rules: 1,
-        words: HEAD,
+    match action {
+        Action::Accept | Action::Drop | Action::Reject => Need {
+            rules: 1,
+            words: HEAD,
+        },
+        Action::Log | Action::Empty | Action::Return => NOTHING,
+        Action::Call(chain) => needs[chain.0 as usize],
     }
 }
 
 // What chain c puts into the list under no condition but its own.
-fn count_chain<'a>(
-    first: &'a [u32; STARTS],
-    action: &'a [u8; RULES],
-    target: &'a [u8; RULES],
-    chains: usize,
-    rules: usize,
-    c: usize,
-    counts: &'a [usize; CHAINS],
-    words: &'a [usize; CHAINS],
-) -> Need
-    requires { Shape first.now action.now target.now chains rules × (c < chains) × Kept counts.now words.now }
-    ensures { Small result × ((f : ℕ → Need) → Known first.now action.now target.now f (kept counts.now words.now) c → result ≡ least (counted f 1 (actions_at action.now target.now (get_or first.now c 0) (rules_in first.now c)))) }
+fn count_chain(contents: &Contents, c: usize, needs: &[Need; CHAINS]) -> Need
+    requires { Shape contents.now × (c < contents.now.chains) × Kept needs.now }
+    ensures { Small result
+        × ((f : ℕ → Need)
+        → Known contents.now f (kept needs.now) c
+        → result ≡ least (counted f 1 (actions_at contents.now (first_of contents.now c) (rules_in contents.now c)))) }
 {
-    let end = first[c + 1] as usize;
-    let mut i = first[c] as usize;
-    // the conditions that rule i has of its own chain: the returns before it, and its own match
-    let mut held: usize = 1;
-    let mut all_rules: usize = 0;
-    let mut all_words: usize = 0;
-    while i < end {
-        let does = action[i];
-        let calls = target[i];
-        let own = put_by(does, calls, counts, words);
-        let conditions = held * own.rules;
-        all_rules = up_to_most(all_rules + own.rules);
-        all_words = up_to_most(all_words + own.words + conditions);
-        if does == RETURN {
+    // the conditions that a rule has of its own chain: the returns before it, and its own match
+    let mut held = 1;
+    let mut need = NOTHING;
+    for rule in &contents.noted[contents.first[c] as usize..contents.first[c + 1] as usize] {
+        let own = put_by(rule.action, needs);
+        need.rules = (need.rules + own.rules).min(MOST);
+        need.words = (need.words + own.words + held * own.rules).min(MOST);
+        if rule.action == Action::Return {
             held += 1;
         }
-        i += 1;
     }
-    Need {
-        rules: all_rules,
-        words: all_words,
-    }
+    need
 }
 
 // The chains of one rank: what they call has a lower rank and is counted.
-fn count_rank<'a>(
-    first: &'a [u32; STARTS],
-    action: &'a [u8; RULES],
-    target: &'a [u8; RULES],
-    ranks: &'a [u32; CHAINS],
-    chains: usize,
-    rules: usize,
-    level: u32,
-    counts: &mut [usize; CHAINS],
-    words: &mut [usize; CHAINS],
-)
-    requires { Shape first.now action.now target.now chains rules × Kept counts.old words.old }
-    ensures { Kept counts.new words.new × ((f : ℕ → Need) → Counting first.now action.now target.now chains (rank_in ranks.now) f → Upto chains (rank_in ranks.now) f level (kept counts.old words.old) → Upto chains (rank_in ranks.now) f (level + 1) (kept counts.new words.new)) }
+fn count_rank(contents: &Contents, ranks: &[u32; CHAINS], level: usize, needs: &mut [Need; CHAINS])
+    requires { Shape contents.now × Kept needs.old }
+    ensures { Kept needs.new
+        × ((f : ℕ → Need)
+        → Counting contents.now (rank_in ranks.now) f
+        → Upto contents.now.chains (rank_in ranks.now) f level (kept needs.old)
+        → Upto contents.now.chains (rank_in ranks.now) f (level + 1) (kept needs.new)) }
 {
-    let mut c: usize = 0;
-    while c < chains {
-        if ranks[c] == level {
-            let need = count_chain(first, action, target, chains, rules, c, counts, words);
-            counts[c] = need.rules;
-            words[c] = need.words;
+    for c in 0..contents.chains {
+        if ranks[c] as usize == level {
+            needs[c] = count_chain(contents, c, needs);
         }
-        c += 1;
     }
 }
 
 // The list's need: the entry's, and the policy under no condition.
-pub fn room<'a>(
-    first: &'a [u32; STARTS],
-    action: &'a [u8; RULES],
-    target: &'a [u8; RULES],
-    ranks: &'a [u32; CHAINS],
-    chains: usize,
-    rules: usize,
-) -> Need
-    requires { Shape first.now action.now target.now chains rules }
-    ensures { (result.rules ≤ need_most + 1) × (result.words ≤ need_most + 3) × ((b : Book) (expression : List ℕ) → Charted b first.now action.now target.now expression chains rules → Ranked first.now action.now target.now chains (rank_in ranks.now) → Passes b → result ≡ need_of b) }
+pub fn room(contents: &Contents, ranks: &[u32; CHAINS]) -> Need
+    requires { Shape contents.now }
+    ensures { (result.rules ≤ need_most + 1)
+        × (result.words ≤ need_most + 3)
+        × ((b : Book) → Charted b contents.now → Ranked contents.now (rank_in ranks.now) → Passes b → result ≡ need_of b) }
 {
-    let mut counts = [0usize; CHAINS];
-    let mut words = [0usize; CHAINS];
-    let mut level: u32 = 0;
-    while (level as usize) < chains {
-        count_rank(
-            first,
-            action,
-            target,
-            ranks,
-            chains,
-            rules,
-            level,
-            &mut counts,
-            &mut words,
-        );
-        level += 1;
+    let mut needs = [NOTHING; CHAINS];
+    for level in 0..contents.chains {
+        count_rank(contents, ranks, level, &mut needs);
     }
-    let list_rules = counts[0] + 1;
-    let list_words = words[0] + HEAD;
+    let entry = needs[0];
     Need {
-        rules: list_rules,
-        words: list_words,
+        rules: entry.rules + 1,
+        words: entry.words + HEAD,
     }
 }

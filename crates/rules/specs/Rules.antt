@@ -1,11 +1,12 @@
 -- Where a rule by number stands in its book. Definitions only.
-use Rattle.std.specs.Prelude.{ℕ, ◌-◌, List, take, drop}
-use Rattle.model.specs.Answer.{Answer, fine, refused, ◌>>=◌}
+use Rattle.std.specs.Prelude.{Result, ℕ, ◌-◌, List, take, drop}
+use Rattle.model.specs.Answer.{Answer, fine, ◌>>=◌}
 use Rattle.model.specs.Tree.{Book, rules_of}
 use Rattle.model.specs.Calls.{readable}
 use Rattle.model.specs.Entries.{rule_of}
-use Rattle.rules.specs.declared.RuleAnswer.{RuleAnswer}
-use Rattle.rules.specs.declared.RuleAnswer.TheVariants.{At, Refused}
+use Rattle.refusals.specs.Refusals.{told_as}
+use Rattle.refusals.specs.declared.Refusal.{Refusal}
+use Rattle.rules.specs.declared.RuleBytes.{RuleBytes}
 
 -- the first of its bytes, and the first behind them
 pub record Bounds : Type 0 where
@@ -25,10 +26,12 @@ rule_bounds book number = do
   b ← readable book
   bounds_in b number
 
--- the answer in document 01's numbers
-abbrev pub told : RuleAnswer → Answer Bounds
-told (At start end) = fine (record { start = start; end = end })
-told (Refused n p) = refused n p
+-- the answer as bounds
+abbrev pub bounds_of : RuleBytes → Bounds
+bounds_of r = record { start = r.start; end = r.end }
+
+abbrev pub bounds_told : Result RuleBytes Refusal → Answer Bounds
+bounds_told = told_as bounds_of
 
 -- the bytes between the bounds
 abbrev pub bytes_in : List ℕ → Answer Bounds → Answer (List ℕ)

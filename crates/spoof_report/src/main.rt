@@ -1,7 +1,7 @@
 // Reviews every port of `plan.bin` against `book.bin`, both in the folder that it is run in, and writes the report.
 #![tactic(auto)]
 
-ghost use Rattle.io.specs.Counts.{IsPrefixLen};
+ghost use Rattle.std.specs.Prelude.{◌≤◌, length, IfOk};
 
 use std::fs::File;
 use std::io::{Error, Read, Result, Write};
@@ -17,46 +17,42 @@ const WORDS: usize = 16384;
 // Room for any report.
 const TEXT: usize = report::BUFFER;
 
-// Fills bytes from the start. A file that cannot be read to its end counts as empty.
-fn fill<F: Read>(file: &mut F, bytes: &mut [u8]) -> usize
-    ensures { IsPrefixLen result bytes.new }
+// Fills bytes from the start, up to their end or the file's.
+fn fill<F: Read>(file: &mut F, bytes: &mut [u8]) -> Result<usize>
+    ensures { IfOk result (λ n. n ≤ length bytes.new) }
 {
     let mut n = 0;
     while n < bytes.len() {
-        match file.read(&mut bytes[n..]) {
-            Ok(0) => return n,
-            Ok(more) => n += more,
-            Err(_) => return 0,
+        match file.read(&mut bytes[n..])? {
+            0 => break,
+            more => n += more,
         }
     }
-    n
+    Ok(n)
 }
 
 // A file that is missing or cannot be read to its end counts as empty.
 fn load<R: Files>(rt: &R, path: &str, bytes: &mut [u8]) -> usize
-    ensures { IsPrefixLen result bytes.new }
+    ensures { result ≤ length bytes.new }
 {
     match File::open(rt, path) {
-        Ok(file) => {
-            let mut file = file;
-            fill(&mut file, bytes)
-        }
+        Ok(mut file) => fill(&mut file, bytes).unwrap_or(0),
         Err(_) => 0,
     }
 }
 
 fn write_report(rt: &HostRuntime, book: &[u8], plan: &[u8]) -> Result<()> {
-    let mut words = [0u32; WORDS];
-    let mut text = [0u8; TEXT];
+    let mut words = [0; WORDS];
+    let mut text = [0; TEXT];
     match report::report(book, plan, &mut words, &mut text) {
-        report::Reported::Bytes(n) => rt.stdout().write_all(&text[..n]),
-        report::Reported::Short(_) => Err(Error::other("report")),
+        Ok(n) => rt.stdout().write_all(&text[..n]),
+        Err(_) => Err(Error::other("report")),
     }
 }
 
 fn main(rt: HostRuntime) -> Result<()> {
-    let mut book = [0u8; BOOK];
-    let mut plan = [0u8; PLAN];
+    let mut book = [0; BOOK];
+    let mut plan = [0; PLAN];
     let b = load(&rt, "book.bin", &mut book);
     let p = load(&rt, "plan.bin", &mut plan);
     write_report(&rt, &book[..b], &plan[..p])

@@ -9,20 +9,17 @@ use Rattle.model.specs.Spans.{Spans, has, complement, Rising, whole}
 use Rattle.model.proofs.SpanMembers.{has_complement}
 use Rattle.model.proofs.SpanCanonical.{rising_minus, canonical_whole}
 use Rattle.model.proofs.SpanUnique.{none_past}
-use Rattle.suspects.specs.Slots.{Slots, Made, Listed}
-use Rattle.suspects.specs.Build.{Held, Grown}
+use Rattle.suspects.specs.Slots.{Slots, Listed}
+use Rattle.suspects.specs.Build.{Held, NoRoom}
 use Rattle.suspects.proofs.Chains.{skip, holds_none, holds_is}
 use Rattle.suspects.proofs.Ahead.{Onward, Hand, onward_all, hand, onward_none}
 
 -- the set that is built is the one writing of its target
-pub made_of : (most : ℕ) (m : Spans) (b top n : ℕ) (low high : List ℕ) → Rising top 0 m → ((y : ℕ) → b ≤ y → has m y ≡ false) → Grown most (has m) b n low high → Made most m n low high
-made_of most m b top n low high r off g = record {
-  written = λ h. let w = g.held h in subst (λ ss. Slots most ss n low high) (holds_is w.spans m b top w.holds r off) w.slots;
-  over = λ h. g.full h m top r (λ y z. refl);
-}
+pub made_of : (most : ℕ) (m : Spans) (b top n : ℕ) (low high : List ℕ) → Rising top 0 m → ((y : ℕ) → b ≤ y → has m y ≡ false) → Held most (has m) b n low high → Slots most m n low high
+made_of most m b top n low high r off w = subst (λ ss. Slots most ss n low high) (holds_is w.spans m b top w.holds r off) w.slots
 
-pub made_full : (most : ℕ) (m : Spans) (b top n : ℕ) (low high : List ℕ) → Rising top 0 m → most < n → Grown most (has m) b n low high → Made most m n low high
-made_full most m b top n low high r full g = record { written = λ h. absurd (omega arith); over = λ h. g.full h m top r (λ y z. refl) }
+pub made_full : (most : ℕ) (m : Spans) (b top : ℕ) → Rising top 0 m → NoRoom most (has m) b → most < length m
+made_full most m b top r full = full m top r (λ y z. refl)
 
 pub held_skip : (most : ℕ) (P : ℕ → Bool) (b c n : ℕ) (low high : List ℕ) → Held most P b n low high → b ≤ c → ((y : ℕ) → b ≤ y → y < c → P y ≡ false) → Held most P c n low high
 held_skip most P b c n low high h k off = record { spans = h.spans; slots = h.slots; holds = skip h.spans P b c h.holds k off }
@@ -44,36 +41,30 @@ module _ (most last : ℕ) (ranges : Spans) (top : ℕ) (low high : List ℕ) wh
   other y b h e = has_complement last ranges y h ∙ ap not e
 
   module _ (rises : Rising top 0 ranges) where
-    complement_rises : Rising last 0 (complement last ranges)
+    pub complement_rises : Rising last 0 (complement last ranges)
     complement_rises = rising_minus last 0 top 0 (whole last) ranges (canonical_whole last) rises
 
-    beyond : (y : ℕ) → last + 1 ≤ y → has (complement last ranges) y ≡ false
+    pub beyond : (y : ℕ) → last + 1 ≤ y → has (complement last ranges) y ≡ false
     beyond y h = none_past last 0 (complement last ranges) y complement_rises (omega arith)
 
     module _ (next at left n : ℕ) (lower upper : List ℕ) (g : Gapped next at left n lower upper) where
-      -- the addresses up to the next range are added, and those of the range are passed
-      module _ (some : 0 < left) (from to r : ℕ) (lower' upper' : List ℕ) (from_is : from ≡ get_or low at 0) (to_is : to ≡ get_or high at 0) (from-fits : from ≤ last)
-          (fills : (P : ℕ → Bool) → next ≤ from → Held most P next n lower upper → ((y : ℕ) → next ≤ y → y < from → P y ≡ true) → Grown most P from r lower' upper') where
+      -- the addresses up to the next range are added, G is what that makes, and those of the range are passed
+      module _ (some : 0 < left) (from to : ℕ) (from_is : from ≡ get_or low at 0) (to_is : to ≡ get_or high at 0) (from-fits : from ≤ last) where
         at_hand : Hand top ranges low high at left next from to
         at_hand = hand top ranges low high at left next g.onward some from to from_is to_is
 
-        grown : Grown most (has (complement last ranges)) from r lower' upper'
-        grown = fills (has (complement last ranges)) at_hand.later g.held (λ y h k. other y false (omega arith) (at_hand.off y h k))
+        pub gap_filled : (G : (ℕ → Bool) → Type 0)
+            → ((P : ℕ → Bool) → next ≤ from → Held most P next n lower upper → ((y : ℕ) → next ≤ y → y < from → P y ≡ true) → G P) → G (has (complement last ranges))
+        gap_filled G fills = fills (has (complement last ranges)) at_hand.later g.held (λ y h k. other y false (omega arith) (at_hand.off y h k))
 
-        pub gap_next : to ≤ last → r ≤ most → Gapped (to + 1) (at + 1) (left - 1) r lower' upper'
-        gap_next to-fits fits = record {
+        pub gap_next : to ≤ last → (r : ℕ) (lower' upper' : List ℕ) → Held most (has (complement last ranges)) from r lower' upper' → Gapped (to + 1) (at + 1) (left - 1) r lower' upper'
+        gap_next to-fits r lower' upper' held = record {
           onward = at_hand.next;
-          held = held_skip most (has (complement last ranges)) from (to + 1) r lower' upper' (grown.held fits) (omega (arith, at_hand.order))
+          held = held_skip most (has (complement last ranges)) from (to + 1) r lower' upper' held (omega (arith, at_hand.order))
               (λ y h k. other y true (omega arith) (at_hand.on y h (omega arith)));
         }
 
-        pub gap_full : most < r → Made most (complement last ranges) r lower' upper'
-        gap_full full = made_full most (complement last ranges) from last r lower' upper' complement_rises full grown
-
       -- what lies behind the last range
-      pub gap_end : left ≤ 0 → next ≤ last + 1 → (r : ℕ) (lower' upper' : List ℕ)
-          → ((P : ℕ → Bool) → next ≤ last + 1 → Held most P next n lower upper → ((y : ℕ) → next ≤ y → y < last + 1 → P y ≡ true) → Grown most P (last + 1) r lower' upper')
-          → Made most (complement last ranges) r lower' upper'
-      gap_end none h r lower' upper' fills =
-          made_of most (complement last ranges) (last + 1) last r lower' upper' complement_rises beyond
-          (fills (has (complement last ranges)) h g.held (λ y u v. other y false (omega arith) (onward_none top ranges low high at left next g.onward none y u)))
+      pub gap_end : left ≤ 0 → next ≤ last + 1 → (G : (ℕ → Bool) → Type 0)
+          → ((P : ℕ → Bool) → next ≤ last + 1 → Held most P next n lower upper → ((y : ℕ) → next ≤ y → y < last + 1 → P y ≡ true) → G P) → G (has (complement last ranges))
+      gap_end none h G fills = fills (has (complement last ranges)) h g.held (λ y u v. other y false (omega arith) (onward_none top ranges low high at left next g.onward none y u))

@@ -1,15 +1,16 @@
--- What `push` and `fill` make of the slots, one law for each way through them. Assumes nothing.
+-- What `push` makes of the slots, one law for each way through them. Assumes nothing.
 use Prim.Native.Nat.{ℕ, ◌+◌, ◌-◌, ◌≤◌, ◌<◌}
 use mathlib.Core.Bool.{Bool, true}
 use mathlib.Core.List.{List, [], ◌∷◌, ◌++◌}
 use mathlib.Core.Logic.{◌⊎◌, inl, inr}
 use mathlib.Core.Path.{◌≡◌, refl, sym, ◌∙◌, ap, subst}
 use native.Mathlib.Omega.{arith}
-use native.Mathlib.Nat.{le_antisymm}
 use lib.ListN.{length, get_or, set}
+use Rattle.model.specs.Limits.{spans_most}
 use Rattle.model.specs.Spans.{Span, Spans, one}
-use Rattle.suspects.specs.Slots.{Slots}
-use Rattle.suspects.specs.Build.{Chain, Holds, Held, Grown, NoRoom, Filled}
+use Rattle.suspects.specs.declared.Suspects.{Suspects}
+use Rattle.suspects.specs.Slots.{Slots, writes}
+use Rattle.suspects.specs.Build.{Chain, Holds, Held, NoRoom, Filled}
 use Rattle.suspects.proofs.Chains.{span, chain_more, chain_snoc, chain_front, grow_new, grow_last, longer}
 use Rattle.suspects.proofs.Columns.{slots_new, slots_last, last_high}
 
@@ -25,13 +26,13 @@ last_of (s ∷ []) h = record { front = []; last = s; is = refl }
 last_of (s ∷ t ∷ ss) h = let l = last_of (t ∷ ss) (omega arith) in record { front = s ∷ l.front; last = l.last; is = ap (λ r. s ∷ r) l.is }
 
 -- the slots stay those of some set, whatever is added
-pub filled_last : (most n : ℕ) (low high : List ℕ) → Filled most n low high → 0 < n → (to : ℕ) → Filled most n low (set high (n - 1) to)
-filled_last most n low high f z to =
+pub filled_last : (s : Suspects) → Filled s → 0 < s.count → (to : ℕ) → Filled (record { count = s.count; low = s.low; high = set s.high (s.count - 1) to })
+filled_last s f z to =
     let l = last_of f.spans (omega (arith, f.slots.count)) in
-    record { spans = l.front ++ one l.last.low to; slots = slots_last most l.front n low high l.last to (subst (λ ss. Slots most ss n low high) l.is f.slots) }
+    record { spans = l.front ++ one l.last.low to; slots = slots_last spans_most l.front s.count s.low s.high l.last to (subst (λ ss. writes s ss) l.is f.slots) }
 
-pub filled_new : (most n : ℕ) (low high : List ℕ) → Filled most n low high → n < most → (from to : ℕ) → Filled most (n + 1) (set low n from) (set high n to)
-filled_new most n low high f z from to = record { spans = f.spans ++ one from to; slots = slots_new most f.spans n low high (span from to) f.slots z }
+pub filled_new : (s : Suspects) → Filled s → s.count < spans_most → (from to : ℕ) → Filled (record { count = s.count + 1; low = set s.low s.count from; high = set s.high s.count to })
+filled_new s f z from to = record { spans = f.spans ++ one from to; slots = slots_new spans_most f.spans s.count s.low s.high (span from to) f.slots z }
 
 module _ (most : ℕ) (P : ℕ → Bool) (n from to : ℕ) (low high : List ℕ) (h : Held most P from n low high) (k : from ≤ to)
     (on : (y : ℕ) → from ≤ y → y ≤ to → P y ≡ true) where
@@ -79,20 +80,3 @@ module _ (most : ℕ) (P : ℕ → Bool) (n from to : ℕ) (low high : List ℕ)
   push_full f z m top r same =
       let i = longer 0 h.spans m from top (apart f) r (λ y u. h.holds.below y u ∙ sym (same y (omega arith))) (same from (omega arith) ∙ on from (omega arith) k) in
       omega (arith, h.slots.count)
-
--- the answers of a step
-pub grown_held : (most : ℕ) (P : ℕ → Bool) (b n : ℕ) (low high : List ℕ) → Held most P b n low high → Grown most P b n low high
-grown_held most P b n low high h = record { held = λ z. h; full = λ z. absurd (omega (arith, h.slots.fits, h.slots.count)) }
-
-pub grown_full : (most : ℕ) (P : ℕ → Bool) (b n : ℕ) (low high : List ℕ) → most < n → NoRoom most P b → Grown most P b n low high
-grown_full most P b n low high z f = record { held = λ w. absurd (omega arith); full = λ w. f }
-
--- up to and not with `to`
-pub fill_none : (most : ℕ) (P : ℕ → Bool) (from to n : ℕ) (low high : List ℕ) → to ≤ from → from ≤ to → Held most P from n low high → Grown most P to n low high
-fill_none most P from to n low high h k w = grown_held most P to n low high (subst (λ b. Held most P b n low high) (le_antisymm k h) w)
-
-pub fill_some : (most : ℕ) (P : ℕ → Bool) (to n : ℕ) (low high : List ℕ) → 0 < to → Grown most P (to - 1 + 1) n low high → Grown most P to n low high
-fill_some most P to n low high h g = subst (λ b. Grown most P b n low high) (back to h) g
-  where
-    back : (b : ℕ) → 0 < b → b - 1 + 1 ≡ b
-    back b z = omega arith

@@ -5,13 +5,14 @@ use mathlib.Core.List.{List, [], ◌∷◌, ◌++◌}
 use mathlib.Core.Path.{◌≡◌, refl, sym, ◌∙◌, ap, ap₂, subst}
 use native.Mathlib.Omega.{arith}
 use lib.Dec.{leb, eqb}
-use lib.ListN.{length, take, drop, replicate, take-append-drop, length-append, length-drop}
-use lib.Seq.{length-take-le, append_snoc, get_or_at}
+use lib.ListN.{length, take, drop, replicate, take-append-drop, length-append, length-drop, length-take}
+use lib.Seq.{length-take-le, get_or-take, append_snoc, get_or_at}
 use borrow.Author.Tests.{leb-true, eqb-true}
 use Rattle.model.specs.Limits.{spans_most}
 use Rattle.model.specs.Spans.{Spans, Rising}
 use Rattle.model.specs.Slices.{State, zip, lows, highs, spans_in, rising, zeros, in_writing}
-use Rattle.suspects.specs.Slots.{Slots, Listed}
+use Rattle.suspects.specs.Slots.{Slots, Listed, RangesAs}
+use Rattle.suspects.proofs.Columns.{low_length}
 
 both : (a b : Bool) → a && b ≡ true → (a ≡ true) × (b ≡ true)
 both true b e = (refl, e)
@@ -115,3 +116,23 @@ listed_from a b at h k (s ∷ ss) c d = (
 
 pub slots_listed : (most : ℕ) (ss : Spans) (n : ℕ) (low high : List ℕ) → Slots most ss n low high → Listed low high 0 ss
 slots_listed most ss n low high w = rw (w.low_is, w.high_is) (listed_from [] [] 0 refl refl ss (replicate (most - length ss) 0) (replicate (most - length ss) 0))
+
+listed_take : (low high : List ℕ) (n at : ℕ) (ss : Spans) → at + length ss ≤ n → Listed low high at ss → Listed (take n low) (take n high) at ss
+listed_take low high n at [] h l = tt
+listed_take low high n at (s ∷ ss) h l = (
+  record {
+    low_room = omega (arith, length-take n low, l.0.low_room);
+    high_room = omega (arith, length-take n high, l.0.high_room);
+    low_is = get_or-take n low at 0 (omega arith) ∙ l.0.low_is;
+    high_is = get_or-take n high at 0 (omega arith) ∙ l.0.high_is;
+  },
+  listed_take low high n (suc at) ss (omega arith) l.1,
+)
+
+-- the slots that are used, alone
+pub slots_ranges : (most top : ℕ) (ss : Spans) (n : ℕ) (low high : List ℕ) → Slots most ss n low high → Rising top 0 ss → RangesAs (take n low) (take n high) ss top
+slots_ranges most top ss n low high w r = record {
+  rising = r;
+  counted = let all = low_length w in omega (arith, w.count, w.fits, length-take n low);
+  listed = listed_take low high n 0 ss (omega (arith, w.count)) (slots_listed most ss n low high w);
+}

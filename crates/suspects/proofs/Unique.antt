@@ -1,21 +1,19 @@
 -- A set has one writing: two values that write it are equal, and a value writes one set. Assumes nothing.
 use Prim.Native.Nat.{ℕ}
-use mathlib.Core.List.{List, []}
-use mathlib.Core.Logic.{⊎_elim}
-use mathlib.Core.Path.{◌≡◌, refl, sym, ◌∙◌, ap, subst}
+use mathlib.Core.Bool.{true≢false}
+use mathlib.Core.Path.{◌≡◌, refl, sym, ◌∙◌, ap}
 use borrow.Author.Tests.{le-leb, lt-leb}
 use lib.Dec.{leb}
 use lib.ListN.{length}
-use Rattle.model.specs.Limits.{greatest}
-use Rattle.model.specs.Answer.{when}
+use Rattle.std.proofs.Common.{Option, Some, None, Result, Ok, Err, is_ok}
+use Rattle.model.specs.Limits.{greatest, spans_most}
 use Rattle.model.specs.Spans.{Spans, complement}
 use Rattle.model.specs.Review.{Phase, running}
 use Rattle.model.specs.Slices.{spans_in, written}
 use Rattle.model.proofs.ReadBack.{spans_back}
 use Rattle.suspects.specs.declared.Suspects.{Suspects}
-use Rattle.suspects.specs.declared.Complement.{Complement}
+use Rattle.suspects.specs.declared.Full.{Full}
 use Rattle.suspects.specs.Slots.{Made, writes, holding, spans_of, Complements}
-use Rattle.suspects.proofs.Chains.{lt_or_le}
 
 pub one_writing : (ss : Spans) (s t : Suspects) → writes s ss → writes t ss → s ≡ t
 one_writing ss s t v w = λ i. record { count = (v.count ∙ sym w.count) i; low = (v.low_is ∙ sym w.low_is) i; high = (v.high_is ∙ sym w.high_is) i }
@@ -36,16 +34,13 @@ pub one_set : (a b : Spans) (s : Suspects) → writes s a → writes s b → a �
 one_set a b s v w = sym (spans_are a s v) ∙ spans_are b s w
 
 -- a complement has one answer
-pub one_complement : (s : Suspects) (r t : Complement) → Complements s r → Complements s t → r ≡ t
-one_complement s r t v w =
-    let e : r.fits ≡ t.fits = v.fits ∙ sym w.fits in
-    let q : r.set ≡ t.set = one_writing (when r.fits (complement greatest (spans_of s)) []) r.set t.set v.set
-    (subst (λ b. writes t.set (when b (complement greatest (spans_of s)) [])) (sym e) w.set) in
-    λ i. record { fits = e i; set = q i }
+pub one_complement : (s : Suspects) (r t : Option Suspects) → Complements s r → Complements s t → r ≡ t
+one_complement s (Some r) (Some t) v w = ap Some (one_writing (complement greatest (spans_of s)) r t v.1 w.1)
+one_complement s (Some r) None v w = absurd (true≢false (sym v.0 ∙ w))
+one_complement s None (Some t) v w = absurd (true≢false (sym w.0 ∙ v))
+one_complement s None None v w = refl
 
--- what is made of slots fits them exactly where the set does
-pub made_fits : (most : ℕ) (ss : Spans) (n : ℕ) (low high : List ℕ) → Made most ss n low high → leb n most ≡ leb (length ss) most
-made_fits most ss n low high m = ⊎_elim
-    (λ h. lt-leb n most h ∙ sym (lt-leb (length ss) most (m.over h)))
-    (λ h. le-leb n most h ∙ sym (le-leb (length ss) most (m.written h).fits))
-    (lt_or_le most n)
+-- what is made of a set is there exactly where the slots have room for it
+pub made_fits : (ss : Spans) (r : Result Suspects Full) → Made ss r → is_ok r ≡ leb (length ss) spans_most
+made_fits ss (Ok s) m = sym (le-leb (length ss) spans_most m.fits)
+made_fits ss (Err e) m = sym (lt-leb (length ss) spans_most m)

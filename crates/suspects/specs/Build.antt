@@ -1,8 +1,10 @@
 -- How a set is built: from its lowest source up, as the writing of P below b, P any predicate. Definitions only.
-use Rattle.std.specs.Prelude.{ℕ, ◌+◌, ◌≤◌, ◌<◌, Bool, true, List, [], ◌∷◌, ◌≡◌, length}
+use Rattle.std.specs.Prelude.{ℕ, ◌+◌, ◌≤◌, ◌<◌, Bool, true, List, [], ◌∷◌, ◌≡◌, length, Result, Ok, Err, OnErr}
 use Rattle.model.specs.Limits.{greatest, spans_most}
 use Rattle.model.specs.Spans.{Spans, has, complement, Rising}
-use Rattle.suspects.specs.Slots.{Slots, Made, Listed}
+use Rattle.suspects.specs.Slots.{Slots, writes, Made, RangesAs}
+use Rattle.suspects.specs.declared.Full.{Full}
+use Rattle.suspects.specs.declared.Suspects.{Suspects}
 
 -- rising ranges from f on, after which a further range could start at e
 abbrev pub Chain : ℕ → Spans → ℕ → Type 0
@@ -24,28 +26,41 @@ pub record Held (most : ℕ) (P : ℕ → Bool) (b n : ℕ) (low high : List ℕ
 abbrev pub NoRoom : ℕ → (ℕ → Bool) → ℕ → Type 0
 NoRoom most P b = (m : Spans) (top : ℕ) → Rising top 0 m → ((y : ℕ) → y < b → has m y ≡ P y) → most < length m
 
+abbrev pub HeldIn : (ℕ → Bool) → ℕ → Suspects → Type 0
+HeldIn P b s = Held spans_most P b s.count s.low s.high
+
 -- the answer of a step: the slots hold the writing of P below b, or there is no room for one
-pub record Grown (most : ℕ) (P : ℕ → Bool) (b n : ℕ) (low high : List ℕ) : Type 0 where
-  pub held : n ≤ most → Held most P b n low high
-  pub full : most < n → NoRoom most P b
+abbrev pub Grown : {A : Type 0} → (ℕ → Bool) → ℕ → Result A Full → Suspects → Type 0
+Grown P b (Ok a) s = HeldIn P b s
+Grown P b (Err e) s = NoRoom spans_most P b
 
 -- the slots are those of some set
-pub record Filled (most n : ℕ) (low high : List ℕ) : Type 0 where
+pub record Filled (s : Suspects) : Type 0 where
   pub spans : Spans
-  pub slots : Slots most spans n low high
+  pub slots : writes s spans
 
--- from the writing below `from` of any P that has all from there to `to`, to that past `to`; with at most one range more
-pub record Pushes (n from to : ℕ) (low high : List ℕ) (r : ℕ) (low' high' : List ℕ) : Type 0 where
-  pub few : r ≤ n + 1
-  pub filled : r ≤ spans_most → Filled spans_most r low' high'
-  pub grown : (P : ℕ → Bool) → Held spans_most P from n low high → ((y : ℕ) → from ≤ y → y ≤ to → P y ≡ true) → Grown spans_most P (to + 1) r low' high'
+abbrev pub FilledOn : {A : Type 0} → Result A Full → Suspects → Type 0
+FilledOn (Ok a) s = Filled s
+FilledOn (Err e) s = Unit {0}
+
+-- a step adds at most one range; and without room it leaves the set as it was, which fills the slots
+abbrev pub Adds : {A : Type 0} → Suspects → Result A Full → Suspects → Type 0
+Adds before (Ok a) after = after.count ≤ before.count + 1
+Adds before (Err e) after = (spans_most ≤ before.count) × (after ≡ before)
+
+-- from the writing below `from` of any P that has all from there to `to`, to that past `to`
+pub record Pushes {A : Type 0} (from to : ℕ) (before : Suspects) (r : Result A Full) (after : Suspects) : Type 0 where
+  pub adds : Adds before r after
+  pub filled : FilledOn r after
+  pub grown : (P : ℕ → Bool) → HeldIn P from before → ((y : ℕ) → from ≤ y → y ≤ to → P y ≡ true) → Grown P (to + 1) r after
 
 -- the same where `to` itself is not meant, and may be `from`
-pub record Fills (n from to : ℕ) (low high : List ℕ) (r : ℕ) (low' high' : List ℕ) : Type 0 where
-  pub few : r ≤ n + 1
-  pub grown : (P : ℕ → Bool) → from ≤ to → Held spans_most P from n low high → ((y : ℕ) → from ≤ y → y < to → P y ≡ true) → Grown spans_most P to r low' high'
+pub record Fills {A : Type 0} (from to : ℕ) (before : Suspects) (r : Result A Full) (after : Suspects) : Type 0 where
+  pub adds : Adds before r after
+  pub filled : FilledOn r after
+  pub grown : (P : ℕ → Bool) → from ≤ to → HeldIn P from before → ((y : ℕ) → from ≤ y → y < to → P y ≡ true) → Grown P to r after
 
--- the complement of whatever rising ranges stand there
-pub record Gaps (low high : List ℕ) (at count r : ℕ) (low' high' : List ℕ) : Type 0 where
-  pub few : r ≤ count + 1
-  pub made : (ranges : Spans) (top : ℕ) → Rising top 0 ranges → length ranges ≡ count → Listed low high at ranges → Made spans_most (complement greatest ranges) r low' high'
+-- the complement of whatever rising ranges these are, which needs at most one range more than they
+pub record Gaps (low high : List ℕ) (r : Result Suspects Full) : Type 0 where
+  pub few : OnErr r (spans_most ≤ length low)
+  pub made : (ranges : Spans) (top : ℕ) → RangesAs low high ranges top → Made (complement greatest ranges) r

@@ -1,31 +1,29 @@
 // The set of suspects: rising ranges, neither touching nor overlapping, in slots of which the unused are 0.
 #![tactic(auto)]
 
-ghost use Rattle.std.specs.Prelude.{◌≡◌, ℕ, ◌+◌, ◌≤◌, false, [], length, take, drop};
-ghost use Rattle.model.specs.Limits.{greatest, ranges_most, spans_most};
+ghost use Rattle.std.specs.Prelude.{◌≡◌, ◌≤◌, ◌+◌, ℕ, [], length};
+ghost use Rattle.model.specs.Limits.{greatest, ranges_most};
 ghost use Rattle.model.specs.Spans.{one};
 ghost use Rattle.model.specs.Review.{Phase};
 ghost use Rattle.model.specs.Slices.{zip, rising, zeros, in_writing};
-ghost use Rattle.suspects.specs.Slots.{Slots, writes, holding, Complements, Ranges, Outside};
+ghost use Rattle.suspects.specs.Slots.{writes, holding, Complements, Ranges, Outside};
 ghost use Rattle.suspects.specs.Build.{Filled, Pushes, Fills, Gaps};
 
-const LAST: u32 = 4294967295;
+const LAST: u32 = u32::MAX;
 
 // Behind the last address.
 const END: u64 = LAST as u64 + 1;
 
+// More ranges than there are slots.
+#[derive(Clone, Copy, PartialEq, Eq)]
+pub struct Full;
+
+// The lows and the highs stand apart, as in a state's words: all the lows, then all the highs.
 #[derive(Clone, Copy)]
 pub struct Suspects {
     pub count: usize,
     pub low: [u32; Suspects::MAX],
     pub high: [u32; Suspects::MAX],
-}
-
-// The addresses that are not in a set; none of them where the set is not in its one writing, or they need too many ranges.
-#[derive(Drop)]
-pub struct Complement {
-    pub fits: bool,
-    pub set: Suspects,
 }
 
 impl Suspects {
@@ -34,216 +32,124 @@ impl Suspects {
     pub fn empty() -> Suspects
         ensures { writes result [] }
     {
-        let none = [0u32; Suspects::MAX];
         Suspects {
             count: 0,
-            low: none,
-            high: none,
+            low: [0; Suspects::MAX],
+            high: [0; Suspects::MAX],
         }
     }
 
     pub fn whole() -> Suspects
         ensures { writes result (one 0 greatest) }
     {
-        let low = [0u32; Suspects::MAX];
-        let mut high = [0u32; Suspects::MAX];
-        high[0] = LAST;
-        Suspects {
-            count: 1,
-            low: low,
-            high: high,
-        }
+        let mut whole = Suspects::empty();
+        whole.high[0] = LAST;
+        whole.count = 1;
+        whole
     }
 
-    pub fn complement(self) -> Complement
-        ensures { Complements self result }
+    // The addresses that are not in the set; none where it is not in its one writing, or they need too many ranges.
+    pub fn complement(&self) -> Option<Suspects>
+        ensures { Complements self.now result }
     {
-        let a = self.low;
-        let b = self.high;
+        if !self.is_written() {
+            return None;
+        }
+        let (low, _) = self.low.split_at(self.count);
+        let (high, _) = self.high.split_at(self.count);
+        gaps(low, high).ok()
+    }
+
+    // Whether a value is a set's one writing. Any numbers may stand in it.
+    pub fn is_written(&self) -> bool
+        ensures { (port place : ℕ) (phase : Phase) → result ≡ in_writing (holding self.now port place phase) }
+    {
+        if Suspects::MAX < self.count {
+            return false;
+        }
+        let (low, unused_low) = self.low.split_at(self.count);
+        let (high, unused_high) = self.high.split_at(self.count);
+        is_rising(low, high) && is_clear(unused_low) && is_clear(unused_high)
+    }
+
+    // The addresses from `from` to `to` more, behind all the others: a later end of the last range where they touch it. With no slot left for them
+    // the set stays as it is.
+    pub fn push(&mut self, from: u32, to: u32) -> Result<(), Full>
+        requires filled { Filled self.old }
+        requires rising { from ≤ to }
+        ensures { Pushes from to self.old result self.new }
+    {
         let n = self.count;
-        if is_written(self) {
-            let mut low = [0u32; Suspects::MAX];
-            let mut high = [0u32; Suspects::MAX];
-            let m = gaps(&a, &b, 0, n, &mut low, &mut high);
-            if Suspects::MAX < m {
-                return no_complement();
-            }
-            let set = Suspects {
-                count: m,
-                low: low,
-                high: high,
-            };
-            return Complement {
-                fits: true,
-                set: set,
-            };
+        if 0 < n && u64::from(self.high[n - 1]) + 1 == u64::from(from) {
+            self.high[n - 1] = to;
+            return Ok(());
         }
-        no_complement()
+        if n == Suspects::MAX {
+            return Err(Full);
+        }
+        self.low[n] = from;
+        self.high[n] = to;
+        self.count += 1;
+        Ok(())
+    }
+
+    // The addresses from `from` up to and not with `to` more, if there are any.
+    fn fill(&mut self, from: u64, to: u64) -> Result<(), Full>
+        requires filled { Filled self.old }
+        requires address { to ≤ greatest + 1 }
+        ensures { Fills from to self.old result self.new }
+    {
+        if from < to {
+            self.push(from as u32, (to - 1) as u32)
+        } else {
+            Ok(())
+        }
     }
 }
 
-fn no_complement() -> Complement
-    ensures { (result.fits ≡ false) × writes result.set [] }
+// Whether ranges rise and leave out an address between one and the next.
+fn is_rising(low: &[u32], high: &[u32]) -> bool
+    ensures { result ≡ rising 0 (zip low.now high.now) }
 {
-    let none = Suspects::empty();
-    Complement {
-        fits: false,
-        set: none,
-    }
-}
-
-// An address in 64 bits, where there is room to step past the last.
-fn wide(x: u32) -> u64
-    ensures { (result ≡ x) × (result ≤ greatest) }
-{
-    x as u64
-}
-
-// Whether the first `n` ranges rise and leave out an address between one and the next.
-fn is_rising(low: &[u32; Suspects::MAX], high: &[u32; Suspects::MAX], n: usize) -> bool
-    requires { (n ≤ spans_most) × (length low.now ≡ spans_most) × (length high.now ≡ spans_most) }
-    ensures { result ≡ rising 0 (zip (take n low.now) (take n high.now)) }
-{
-    let mut i: usize = 0;
-    let mut least: u64 = 0;
-    while i < n {
-        let l = low[i];
-        let h = high[i];
-        if wide(l) < least {
+    let mut least = 0;
+    for (&from, &to) in low.iter().zip(high) {
+        if u64::from(from) < least || to < from {
             return false;
         }
-        if h < l {
-            return false;
-        }
-        least = wide(h) + 2;
-        i += 1;
+        least = u64::from(to) + 2;
     }
     true
 }
 
-// Whether the slots from `n` on are 0.
-fn is_clear(slots: &[u32; Suspects::MAX], n: usize) -> bool
-    requires { (n ≤ spans_most) × (length slots.now ≡ spans_most) }
-    ensures { result ≡ zeros (drop n slots.now) }
+fn is_clear(slots: &[u32]) -> bool
+    ensures { result ≡ zeros slots.now }
 {
-    let mut i: usize = n;
-    while i < Suspects::MAX {
-        if slots[i] != 0 {
-            return false;
-        }
-        i += 1;
-    }
-    true
-}
-
-// Whether a value is a set's one writing. Any numbers may stand in it.
-pub fn is_written(s: Suspects) -> bool
-    ensures { (port place : ℕ) (phase : Phase) → result ≡ in_writing (holding s port place phase) }
-{
-    let n = s.count;
-    if Suspects::MAX < n {
-        return false;
-    }
-    let low = s.low;
-    let high = s.high;
-    if is_rising(&low, &high, n) {
-        if is_clear(&low, n) {
-            return is_clear(&high, n);
-        }
-    }
-    false
-}
-
-// The addresses from `from` to `to` more, behind all the others: a later end of the last range where they touch it. The answer is the next
-// count; past the slots where there is no room.
-pub fn push(
-    low: &mut [u32; Suspects::MAX],
-    high: &mut [u32; Suspects::MAX],
-    n: usize,
-    from: u32,
-    to: u32,
-) -> usize
-    requires { Filled spans_most n low.old high.old × (from ≤ to) }
-    ensures { Pushes n from to low.old high.old result low.new high.new }
-{
-    if 0 < n {
-        let last = n - 1;
-        let end = high[last];
-        if end < from {
-            if from - end == 1 {
-                high[last] = to;
-                return n;
-            }
-        }
-    }
-    if n < Suspects::MAX {
-        low[n] = from;
-        high[n] = to;
-        n + 1
-    } else {
-        Suspects::MAX + 1
-    }
-}
-
-// The addresses from `from` up to and not with `to` more, if there are any.
-fn fill(
-    low: &mut [u32; Suspects::MAX],
-    high: &mut [u32; Suspects::MAX],
-    n: usize,
-    from: u64,
-    to: u64,
-) -> usize
-    requires { Filled spans_most n low.old high.old × (to ≤ greatest + 1) }
-    ensures { Fills n from to low.old high.old result low.new high.new }
-{
-    if to <= from {
-        return n;
-    }
-    let last = to - 1;
-    push(low, high, n, from as u32, last as u32)
+    slots.iter().all(|&x| x == 0)
 }
 
 // The addresses before, between and behind ranges.
-fn gaps(
-    low: &[u32],
-    high: &[u32],
-    from: usize,
-    count: usize,
-    lower: &mut [u32; Suspects::MAX],
-    upper: &mut [u32; Suspects::MAX],
-) -> usize
-    requires { Ranges low.now high.now from count × Slots spans_most [] 0 lower.old upper.old }
-    ensures { Gaps low.now high.now from count result lower.new upper.new }
+fn gaps(low: &[u32], high: &[u32]) -> Result<Suspects, Full>
+    requires { Ranges low.now high.now }
+    ensures { Gaps low.now high.now result }
 {
-    let mut n: usize = 0;
-    let mut next: u64 = 0;
-    let mut at = from;
-    let mut left = count;
-    while 0 < left {
-        let l = low[at];
-        let h = high[at];
-        n = fill(lower, upper, n, next, wide(l));
-        if Suspects::MAX < n {
-            return n;
-        }
-        next = wide(h) + 1;
-        at = at + 1;
-        left = left - 1;
+    let mut set = Suspects::empty();
+    let mut next = 0;
+    for (&from, &to) in low.iter().zip(high) {
+        set.fill(next, u64::from(from))?;
+        next = u64::from(to) + 1;
     }
-    fill(lower, upper, n, next, END)
+    set.fill(next, END)?;
+    Ok(set)
 }
 
 // The addresses outside a plan's ranges. Those are so few that there is room for what lies between them.
-pub fn outside(low: &[u32], high: &[u32], from: usize, count: usize) -> Suspects
-    requires { Ranges low.now high.now from count × (count ≤ ranges_most) }
-    ensures { Outside low.now high.now from count result }
+pub fn outside(low: &[u32], high: &[u32]) -> Suspects
+    requires ranges { Ranges low.now high.now }
+    requires few { length low.now ≤ ranges_most }
+    ensures { Outside low.now high.now result }
 {
-    let mut a = [0u32; Suspects::MAX];
-    let mut b = [0u32; Suspects::MAX];
-    let n = gaps(low, high, from, count, &mut a, &mut b);
-    Suspects {
-        count: n,
-        low: a,
-        high: b,
-    }
+    let Ok(outside) = gaps(low, high) else {
+        unreachable!()
+    };
+    outside
 }

@@ -1,5 +1,5 @@
 -- What one rule does to the suspects, in the model's words, and what the functions that walk a range say to one another. Definitions only.
-use Rattle.std.specs.Prelude.{ℕ, ◌+◌, ◌≤◌, ◌<◌, Bool, true, false, not, List, [], ◌∷◌, ◌≡◌, length}
+use Rattle.std.specs.Prelude.{ℕ, ◌+◌, ◌≤◌, ◌<◌, Bool, true, false, not, List, [], ◌∷◌, ◌≡◌, Option, Some, None, Result, Ok, Err}
 use Rattle.model.specs.Limits.{greatest, spans_most}
 use Rattle.model.specs.Ternary.{Tri, is_yes, is_no}
 use Rattle.model.specs.Matching.{value, asked}
@@ -9,77 +9,92 @@ use Rattle.model.specs.Spans.{Spans, minus, Rising}
 use Rattle.model.specs.Review.{split_conditions}
 use Rattle.matching.specs.declared.Held.{Held}
 use Rattle.matching.specs.Sight.{Sees}
-use Rattle.matching.specs.Conditions.{Written}
-use Rattle.suspects.specs.Slots.{Slots, Made}
-use Rattle.suspects.specs.Build as build
-use Rattle.suspects.specs.Build.{Grown, Filled}
-use Rattle.sweep.specs.declared.Next.{Next}
-use Rattle.sweep.specs.declared.Lowest.{Lowest}
-use Rattle.sweep.specs.declared.Lowest.TheVariants.{At, Nothing}
+use Rattle.matching.specs.Conditions.{WrittenAs}
+use Rattle.suspects.specs.Slots.{writes, Made}
+use Rattle.suspects.specs.Build.{NoRoom, HeldIn, Grown, FilledOn}
+use Rattle.suspects.specs.declared.Full.{Full}
+use Rattle.suspects.specs.declared.Suspects.{Suspects}
 
 -- the slots are those of some set in its one writing
-pub record Kept (n : ℕ) (low high : List ℕ) : Type 0 where
+pub record Kept (s : Suspects) : Type 0 where
   pub spans : Spans
   pub top : ℕ
   pub rising : Rising top 0 spans
-  pub slots : Slots spans_most spans n low high
+  pub slots : writes s spans
 
--- of whatever conditions are written there
-abbrev pub Each : List ℕ → List ℕ → ℕ → ℕ → (List Condition → Type 0) → Type 0
-Each s words from count goal = (cs : List Condition) → length cs ≡ count → Written s words from cs → goal cs
+-- of whatever conditions the words are
+abbrev pub Each : List ℕ → List ℕ → (List Condition → Type 0) → Type 0
+Each s words goal = (cs : List Condition) → WrittenAs s words cs → goal cs
 
 -- and whatever set stands in the slots
-abbrev pub Of : ℕ → List ℕ → List ℕ → (Spans → Type 0) → Type 0
-Of n low high goal = (ss : Spans) (top : ℕ) → Rising top 0 ss → Slots spans_most ss n low high → goal ss
+abbrev pub Of : Suspects → (Spans → Type 0) → Type 0
+Of s goal = (ss : Spans) (top : ℕ) → Rising top 0 ss → writes s ss → goal ss
 
 -- a rule's value for a source
 abbrev pub value_for : ℕ → List Condition → ℕ → Tri
 value_for port cs y = conditions_value (value (asked port y)) cs
 
-abbrev pub Asks : List ℕ → List ℕ → ℕ → ℕ → ℕ → ℕ → Held → Type 0
-Asks s words from count port x r = Each s words from count (λ cs. Sees (value_for port cs) x r.value r.until)
+-- A RULE AS IT IS ASKED: the book, the words of the rule's conditions, and the port
+
+pub record AskedRule : Type 0 where
+  pub book : List ℕ
+  pub conditions : List ℕ
+  pub port : ℕ
+
+-- whatever conditions the rule has
+abbrev pub EachOf : AskedRule → (List Condition → Type 0) → Type 0
+EachOf rule goal = Each rule.book rule.conditions goal
+
+abbrev pub Asks : AskedRule → ℕ → Held → Type 0
+Asks rule x r = EachOf rule (λ cs. Sees (value_for rule.port cs) x r)
 
 -- A DROP RULE: a suspect stays where not every condition is true
 
 abbrev pub stays : ℕ → List Condition → ℕ → Bool
 stays port cs y = not (is_yes (value_for port cs y))
 
--- from the writing below x of any P that is this from x to high, to that below the next source
-pub record KeepsPiece (s words : List ℕ) (from count port n : ℕ) (lower upper : List ℕ) (x high : ℕ) (r : Next) (lower' upper' : List ℕ) : Type 0 where
-  pub ahead : x < r.source
-  pub upto : r.source ≤ high + 1
-  pub filled : r.count ≤ spans_most → Filled spans_most r.count lower' upper'
-  pub grown : Each s words from count (λ cs. (P : ℕ → Bool) → build.Held spans_most P x n lower upper → ((y : ℕ) → x ≤ y → y ≤ high → P y ≡ stays port cs y)
-      → Grown spans_most P r.source r.count lower' upper')
+-- the last of a piece, which is one of the range
+abbrev pub Ahead : ℕ → ℕ → Result ℕ Full → Type 0
+Ahead x high (Ok last) = (x ≤ last) × (last ≤ high)
+Ahead x high (Err e) = Unit {0}
+
+abbrev pub GrownPast : (ℕ → Bool) → Result ℕ Full → ℕ → Suspects → Type 0
+GrownPast P (Ok last) high s = HeldIn P (last + 1) s
+GrownPast P (Err e) high s = NoRoom spans_most P (high + 1)
+
+-- from the writing below x of any P that is this from x to high, to that past the last of the piece
+pub record KeepsPiece (rule : AskedRule) (before : Suspects) (x high : ℕ) (r : Result ℕ Full) (after : Suspects) : Type 0 where
+  pub ahead : Ahead x high r
+  pub filled : FilledOn r after
+  pub grown : EachOf rule (λ cs. (P : ℕ → Bool) → HeldIn P x before → ((y : ℕ) → x ≤ y → y ≤ high → P y ≡ stays rule.port cs y) → GrownPast P r high after)
 
 -- the same, to that past high, which is an address
-pub record KeepsRange (s words : List ℕ) (from count port n : ℕ) (lower upper : List ℕ) (low high r : ℕ) (lower' upper' : List ℕ) : Type 0 where
+pub record KeepsRange {A : Type 0} (rule : AskedRule) (before : Suspects) (low high : ℕ) (r : Result A Full) (after : Suspects) : Type 0 where
   pub fits : high ≤ greatest
-  pub grown : Each s words from count (λ cs. (P : ℕ → Bool) → build.Held spans_most P low n lower upper → ((y : ℕ) → low ≤ y → y ≤ high → P y ≡ stays port cs y)
-      → Grown spans_most P (high + 1) r lower' upper')
+  pub filled : FilledOn r after
+  pub grown : EachOf rule (λ cs. (P : ℕ → Bool) → HeldIn P low before → ((y : ℕ) → low ≤ y → y ≤ high → P y ≡ stays rule.port cs y) → Grown P (high + 1) r after)
 
 -- the suspects that are left, as the model has them
-abbrev pub Drops : List ℕ → List ℕ → ℕ → ℕ → ℕ → List ℕ → List ℕ → ℕ → ℕ → List ℕ → List ℕ → Type 0
-Drops s words from count port low high n r lower' upper' =
-    Each s words from count (λ cs. Of n low high (λ ss. Made spans_most (minus ss (split_conditions port cs).true) r lower' upper'))
+abbrev pub Drops : List ℕ → List ℕ → ℕ → Suspects → Result Suspects Full → Type 0
+Drops s words port suspects r = Each s words (λ cs. Of suspects (λ ss. Made (minus ss (split_conditions port cs).true) r))
 
 -- AN ACCEPT RULE: a suspect may pass where no condition is false
 
 abbrev pub passes : ℕ → List Condition → ℕ → Bool
 passes port cs y = not (is_no (value_for port cs y))
 
-abbrev pub LowestIn : (ℕ → Bool) → ℕ → ℕ → Lowest → Type 0
-LowestIn P low high (At x) = (low ≤ x) × (x ≤ high) × (P x ≡ true) × ((y : ℕ) → low ≤ y → y < x → P y ≡ false)
-LowestIn P low high Nothing = (y : ℕ) → low ≤ y → y ≤ high → P y ≡ false
+abbrev pub LowestIn : (ℕ → Bool) → ℕ → ℕ → Option ℕ → Type 0
+LowestIn P low high (Some x) = (low ≤ x) × (x ≤ high) × (P x ≡ true) × ((y : ℕ) → low ≤ y → y < x → P y ≡ false)
+LowestIn P low high None = (y : ℕ) → low ≤ y → y ≤ high → P y ≡ false
 
-pub record FirstIn (s words : List ℕ) (from count port low high : ℕ) (r : Lowest) : Type 0 where
+pub record FirstIn (rule : AskedRule) (low high : ℕ) (r : Option ℕ) : Type 0 where
   pub fits : high ≤ greatest
-  pub first : Each s words from count (λ cs. LowestIn (passes port cs) low high r)
+  pub first : EachOf rule (λ cs. LowestIn (passes rule.port cs) low high r)
 
 -- the lowest of a set in its one writing
-abbrev pub lowest : Spans → Lowest
-lowest [] = Nothing
-lowest (s ∷ ss) = At s.low
+abbrev pub lowest : Spans → Option ℕ
+lowest [] = None
+lowest (s ∷ ss) = Some s.low
 
-abbrev pub Passes : List ℕ → List ℕ → ℕ → ℕ → ℕ → List ℕ → List ℕ → ℕ → Lowest → Type 0
-Passes s words from count port low high n r = Each s words from count (λ cs. Of n low high (λ ss. r ≡ lowest (minus ss (split_conditions port cs).false)))
+abbrev pub Passes : List ℕ → List ℕ → ℕ → Suspects → Option ℕ → Type 0
+Passes s words port suspects r = Each s words (λ cs. Of suspects (λ ss. r ≡ lowest (minus ss (split_conditions port cs).false)))

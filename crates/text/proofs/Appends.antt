@@ -2,13 +2,11 @@
 use Prim.Native.Nat.{ℕ, zero, suc, ◌+◌, ◌-◌, ◌≤◌, ◌<◌, ◌/◌, ◌%◌}
 use native.Mathlib.Omega.{arith}
 use native.Mathlib.Nat.{add-zero}
-use native.Mathlib.Numerals.{add-one}
 use mathlib.Core.Bool.{Bool, true, false}
 use mathlib.Core.List.{List, [], ◌∷◌, ◌++◌}
 use mathlib.Core.Path.{◌≡◌, ap, sym, ◌∙◌, subst}
-use lib.ListN.{length, take, set, get_or, length-append}
+use lib.ListN.{length, set, length-append}
 use lib.Dec.{ltb}
-use lib.Seq.{take-suc, take_all}
 use borrow.Author.Tests.{lt-ltb, le-ltb}
 use Rattle.model.specs.Answer.{when}
 use Rattle.model.specs.Report.{digits, decimal}
@@ -85,16 +83,3 @@ last_digit w at (suc n) x m w' p ge h lt = rw (le-ltb x 10 ge) (byte (48 + x % 1
   where
     suc_sub_one : (n : ℕ) → suc n - 1 ≡ n
     suc_sub_one n = omega arith
-
--- A TEXT, byte by byte
-pub text_none : (w : List ℕ) (at : ℕ) (text : List ℕ) → at + length text ≤ length w → Puts w at (take 0 text) (at + 0) w
-text_none w at text h = rw add-zero (nothing w at (omega arith))
-
-pub text_next : (w : List ℕ) (at : ℕ) (text : List ℕ) (i : ℕ) (w' : List ℕ) → at + length text ≤ length w → i < length text → Puts w at (take i text) (at + i) w' →
-    Puts w at (take (i + 1) text) (at + (i + 1)) (set w' (at + i) (get_or text i 0))
-text_next w at text i w' h lt p =
-    let e : length w' ≡ length w = puts_length p in
-    rw (add-one i, take-suc text i 0 lt) (subst (λ k. Puts w at (take i text ++ (get_or text i 0 ∷ [])) k (set w' (at + i) (get_or text i 0))) (omega arith) (byte (get_or text i 0) p (omega (arith, e))))
-
-pub text_all : (w : List ℕ) (at : ℕ) (text : List ℕ) (i : ℕ) (w' : List ℕ) → length text ≤ i → Puts w at (take i text) (at + i) w' → Puts w at text (at + i) w'
-text_all w at text i w' h p = rw (take_all i text h) at p

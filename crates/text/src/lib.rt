@@ -9,12 +9,9 @@ pub fn put_text(buf: &mut [u8], at: usize, text: &[u8]) -> usize
     requires { at + length text.now ≤ length buf.old }
     ensures { Puts buf.old at text.now result buf.new }
 {
-    let mut i: usize = 0;
-    while i < text.len() {
-        buf[at + i] = text[i];
-        i += 1;
-    }
-    at + i
+    let end = at + text.len();
+    buf[at..end].copy_from_slice(text);
+    end
 }
 
 // At most n digits: the last one stands behind those of what is left without it.
@@ -26,12 +23,12 @@ fn put_digits(buf: &mut [u8], at: usize, n: usize, x: usize) -> usize
         return at;
     }
     if x < 10 {
-        buf[at] = 48 + x as u8;
+        buf[at] = b'0' + x as u8;
         return at + 1;
     }
     let last = x % 10;
     let next = put_digits(buf, at, n - 1, x / 10);
-    buf[next] = 48 + last as u8;
+    buf[next] = b'0' + last as u8;
     next + 1
 }
 
@@ -47,7 +44,7 @@ fn put_part(buf: &mut [u8], at: usize, x: usize) -> usize
     requires { at + (1 + decimal_most) ≤ length buf.old }
     ensures { Puts buf.old at (46 ∷ decimal x) result buf.new }
 {
-    buf[at] = 46;
+    buf[at] = b'.';
     put_decimal(buf, at + 1, x)
 }
 
@@ -56,12 +53,9 @@ pub fn put_dotted(buf: &mut [u8], at: usize, x: u32) -> usize
     requires { at + dotted_most ≤ length buf.old }
     ensures { Puts buf.old at (dotted x) result buf.new }
 {
-    let a = x / 16777216;
-    let b = x / 65536 % 256;
-    let c = x / 256 % 256;
-    let d = x % 256;
-    let first = put_decimal(buf, at, a as usize);
-    let second = put_part(buf, first, b as usize);
-    let third = put_part(buf, second, c as usize);
-    put_part(buf, third, d as usize)
+    let [a, b, c, d] = x.to_be_bytes();
+    let first = put_decimal(buf, at, usize::from(a));
+    let second = put_part(buf, first, usize::from(b));
+    let third = put_part(buf, second, usize::from(c));
+    put_part(buf, third, usize::from(d))
 }

@@ -7,19 +7,21 @@ use lib.ListN.{length, take, length-append}
 use lib.Seq.{take-take}
 use Rattle.model.specs.Filling.{put}
 use Rattle.model.proofs.Filling.{put_put, put_none}
-use Rattle.unfolding.specs.Emitted.{rule_words, after, own_at, action_at, rules_words}
+use Rattle.book.specs.Contents.{action_at}
+use Rattle.book.specs.declared.Contents.{Contents}
+use Rattle.unfolding.specs.Emitted.{rule_words, after, own_at, rules_words}
 use Rattle.unfolding.specs.Walking.{Ruled}
 
-module _ (action target expression : List ℕ) (run : List ℕ → ℕ → List ℕ) where
+module _ (k : Contents) (run : List ℕ → ℕ → List ℕ) where
   -- what the rules from i up to the end put in, what rule i does, and the conditions after it
   abbrev pub Rest : ℕ → List ℕ → ℕ → List ℕ
-  Rest end cs i = rules_words action target expression run cs i (end - i)
+  Rest end cs i = rules_words k run cs i (end - i)
 
   abbrev pub Puts : List ℕ → ℕ → List ℕ
-  Puts cs i = rule_words run cs i (own_at expression i) (action_at action target i)
+  Puts cs i = rule_words run cs i (own_at k i) (action_at k i)
 
   abbrev pub Leaves : List ℕ → ℕ → List ℕ
-  Leaves cs i = after cs (own_at expression i) (action_at action target i)
+  Leaves cs i = after cs (own_at k i) (action_at k i)
 
   rest_more : (end : ℕ) (cs : List ℕ) (i : ℕ) → i < end → Rest end cs i ≡ Puts cs i ++ Rest end (Leaves cs i) (i + 1)
   unfolding rules_words

@@ -1,6 +1,4 @@
 pub mod Entries
-pub mod Actions
-pub mod Entered
 pub mod Going
 pub mod Chain
 pub mod ListWords

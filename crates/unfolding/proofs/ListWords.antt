@@ -1,18 +1,19 @@
--- What is written from a book's arrays are the words of the book's list.
+-- What is written from a book's contents are the words of the book's list.
 use Prim.Native.Nat.{ℕ, zero, suc, ◌+◌, ◌*◌, ◌≤◌, ◌<◌}
 use native.Mathlib.Omega.{arith}
 use native.Mathlib.Nat.{add-zero}
 use native.Mathlib.Numerals.{add-one}
-use mathlib.Core.Path.{◌≡◌, refl, ap, ap₂, sym, subst, ◌∙◌}
+use mathlib.Core.Path.{◌≡◌, refl, ap, ap₂, sym, ◌∙◌}
 use mathlib.Core.List.{List, [], ◌∷◌, ◌++◌, append-nil}
-use lib.ListN.{length, get_or}
+use lib.ListN.{length}
 use Rattle.model.specs.Tree.{Rule, Book, Action, place_of}
 use Rattle.model.specs.Tree.Action.{accept, drop, reject, log, empty, return, call}
 use Rattle.model.specs.Calls.{chain_of}
 use Rattle.model.specs.Unfolding.{ListRule, Context, holds, fails, entered, past, unfold_rules, unfold_chain, list_of, condition_word, condition_words, words_of}
 use Rattle.model.proofs.ReadBack.{words_append, length_words}
-use Rattle.book.specs.Contents.{action_of, Noted, NotedAll, Charted}
-use Rattle.unfolding.specs.Emitted.{entry, rule_words, after, own_at, action_at, rules_words, chain_words}
+use Rattle.book.specs.Contents.{action_at, first_of, Noted, NotedAll, Charted}
+use Rattle.book.specs.declared.Contents.{Contents}
+use Rattle.unfolding.specs.Emitted.{entry, rule_words, after, own_at, rules_words, chain_words}
 
 conditions_append : (cs ds : Context) → condition_words (cs ++ ds) ≡ condition_words cs ++ condition_words ds
 conditions_append [] ds = refl
@@ -42,15 +43,14 @@ Within chains empty = Unit {0}
 Within chains return = Unit {0}
 Within chains (call c) = c < chains
 
-within : (chains a t : ℕ) → (a ≡ 6 → t < chains) → Within chains (action_of a t)
-within chains zero t h = tt
-within chains (suc zero) t h = tt
-within chains (suc (suc zero)) t h = tt
-within chains (suc (suc (suc zero))) t h = tt
-within chains (suc (suc (suc (suc zero)))) t h = tt
-within chains (suc (suc (suc (suc (suc zero))))) t h = tt
-within chains (suc (suc (suc (suc (suc (suc zero)))))) t h = h refl
-within chains (suc (suc (suc (suc (suc (suc (suc a))))))) t h = tt
+within : (chains : ℕ) (a : Action) → ((c : ℕ) → a ≡ call c → c < chains) → Within chains a
+within chains accept h = tt
+within chains drop h = tt
+within chains reject h = tt
+within chains log h = tt
+within chains empty h = tt
+within chains return h = tt
+within chains (call c) h = h c refl
 
 -- after a rule
 after_words : (cs : Context) (r : Rule) (x : Action) → after (condition_words cs) (own_word r) x ≡ condition_words (past cs r x)
@@ -73,42 +73,42 @@ module _ (chains : ℕ) (run : List ℕ → ℕ → List ℕ) (list : Context �
   rule_words_lem cs r return h = refl
   rule_words_lem cs r (call c) h = ap (λ l. run l c) (sym (with_own cs r)) ∙ same (cs ++ holds r) c h
 
-  module _ (action target expression : List ℕ) (rules : ℕ) (known : (i : ℕ) → i < rules → get_or action i 0 ≡ 6 → get_or target i 0 < chains) where
-    -- rule i of the arrays is r
-    noted_words : (cs : Context) (i : ℕ) (r : Rule) → i < rules → Noted action target expression i r → rule_words run (condition_words cs) i (own_at expression i) (action_at action target i) ≡ words_of (entered list cs r r.action)
+  module _ (k : Contents) (rules : ℕ) (known : (i d : ℕ) → i < rules → action_at k i ≡ call d → d < chains) where
+    -- rule i of the contents is r
+    noted_words : (cs : Context) (i : ℕ) (r : Rule) → i < rules → Noted k i r → rule_words run (condition_words cs) i (own_at k i) (action_at k i) ≡ words_of (entered list cs r r.action)
     noted_words cs i r lt q =
-        ap (λ k. rule_words run (condition_words cs) k (own_at expression i) (action_at action target i)) (sym q.number)
-        ∙ ap (λ k. rule_words run (condition_words cs) r.number (2 * k) (action_at action target i)) (sym q.match)
+        ap (λ j. rule_words run (condition_words cs) j (own_at k i) (action_at k i)) (sym q.number)
+        ∙ ap (λ j. rule_words run (condition_words cs) r.number (2 * j) (action_at k i)) (sym q.match)
         ∙ ap (λ x. rule_words run (condition_words cs) r.number (own_word r) x) (sym q.act)
-        ∙ rule_words_lem cs r r.action (subst (Within chains) (sym q.act) (within chains (get_or action i 0) (get_or target i 0) (known i lt)))
+        ∙ rule_words_lem cs r r.action (within chains r.action (λ d e. known i d lt (sym q.act ∙ e)))
 
-    noted_after : (cs : Context) (i : ℕ) (r : Rule) → Noted action target expression i r → after (condition_words cs) (own_at expression i) (action_at action target i) ≡ condition_words (past cs r r.action)
+    noted_after : (cs : Context) (i : ℕ) (r : Rule) → Noted k i r → after (condition_words cs) (own_at k i) (action_at k i) ≡ condition_words (past cs r r.action)
     noted_after cs i r q =
-        ap (λ k. after (condition_words cs) (2 * k) (action_at action target i)) (sym q.match)
+        ap (λ j. after (condition_words cs) (2 * j) (action_at k i)) (sym q.match)
         ∙ ap (λ x. after (condition_words cs) (own_word r) x) (sym q.act)
         ∙ after_words cs r r.action
 
-    rules_words_lem : (cs : Context) (i : ℕ) (rs : List Rule) → i + length rs ≤ rules → NotedAll action target expression i rs → rules_words action target expression run (condition_words cs) i (length rs) ≡ words_of (unfold_rules list cs rs)
+    rules_words_lem : (cs : Context) (i : ℕ) (rs : List Rule) → i + length rs ≤ rules → NotedAll k i rs → rules_words k run (condition_words cs) i (length rs) ≡ words_of (unfold_rules list cs rs)
     unfolding rules_words unfold_rules words_of
     rules_words_lem cs i [] h q = refl
     rules_words_lem cs i (r ∷ rs) h q =
-        let rest : rules_words action target expression run (condition_words (past cs r r.action)) (i + 1) (length rs) ≡ words_of (unfold_rules list (past cs r r.action) rs) = rw add-one (rules_words_lem (past cs r r.action) (suc i) rs (omega arith) q.1) in
-        ap₂ ◌++◌ (noted_words cs i r (omega arith) q.0) (ap (λ l. rules_words action target expression run l (i + 1) (length rs)) (noted_after cs i r q.0) ∙ rest)
+        let rest : rules_words k run (condition_words (past cs r r.action)) (i + 1) (length rs) ≡ words_of (unfold_rules list (past cs r r.action) rs) = rw add-one (rules_words_lem (past cs r r.action) (suc i) rs (omega arith) q.1) in
+        ap₂ ◌++◌ (noted_words cs i r (omega arith) q.0) (ap (λ l. rules_words k run l (i + 1) (length rs)) (noted_after cs i r q.0) ∙ rest)
         ∙ sym (words_append (entered list cs r r.action) (unfold_rules list (past cs r r.action) rs))
 
-module _ (b : Book) (first action target expression : List ℕ) (chains rules : ℕ) (is : Charted b first action target expression chains rules) where
-  chain_words_lem : (d : ℕ) (cs : Context) (c : ℕ) → c < chains → chain_words first action target expression d (condition_words cs) c ≡ words_of (unfold_chain d b cs c)
+module _ (b : Book) (k : Contents) (is : Charted b k) where
+  chain_words_lem : (d : ℕ) (cs : Context) (c : ℕ) → c < k.chains → chain_words k d (condition_words cs) c ≡ words_of (unfold_chain d b cs c)
   unfolding chain_words unfold_chain words_of
   chain_words_lem zero cs c lt = refl
   chain_words_lem (suc d) cs c lt =
-      ap (rules_words action target expression (chain_words first action target expression d) (condition_words cs) (get_or first c 0)) (sym (is.sizes c lt))
-      ∙ rules_words_lem chains (chain_words first action target expression d) (unfold_chain d b) (chain_words_lem d) action target expression rules is.shape.known cs (get_or first c 0) (chain_of b c)
+      ap (rules_words k (chain_words k d) (condition_words cs) (first_of k c)) (sym (is.sizes c lt))
+      ∙ rules_words_lem k.chains (chain_words k d) (unfold_chain d b) (chain_words_lem d) k k.rules is.shape.known cs (first_of k c) (chain_of b c)
       (omega (arith, is.sizes c lt, is.shape.rising c lt, is.shape.inside c lt)) (is.noted c lt)
 
   -- THE LIST'S WORDS: the entry's chain under no condition, and the policy
-  pub list_words : (policy : ℕ) → b.policy ≡ policy → chain_words first action target expression chains [] 0 ++ entry policy rules [] ≡ words_of (list_of b)
+  pub list_words : (policy : ℕ) → b.policy ≡ policy → chain_words k k.chains [] 0 ++ entry policy k.rules [] ≡ words_of (list_of b)
   unfolding list_of
   list_words policy e =
-      ap₂ ◌++◌ (chain_words_lem chains [] 0 is.shape.some ∙ ap (λ d. words_of (unfold_chain d b [] 0)) (sym is.count))
-      (ap₂ (λ k l. entry k l []) (sym e) (sym is.total) ∙ entry_words b.policy b.total [])
+      ap₂ ◌++◌ (chain_words_lem k.chains [] 0 is.shape.some ∙ ap (λ d. words_of (unfold_chain d b [] 0)) (sym is.count))
+      (ap₂ (λ n l. entry n l []) (sym e) (sym is.total) ∙ entry_words b.policy b.total [])
       ∙ sym (words_append (unfold_chain (length b.chains) b [] 0) (record { action = b.policy; number = b.total; conditions = [] } ∷ []))

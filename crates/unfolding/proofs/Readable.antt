@@ -22,6 +22,7 @@ use Rattle.model.proofs.EveryRule.{every_as}
 use Rattle.model.proofs.Success.{Fine, fine_is, Got, got_when}
 use Rattle.model.proofs.Placed.{readable_placed}
 use Rattle.model.proofs.BookRead.{readable_is}
+use Rattle.book.specs.declared.Contents.{Contents}
 use Rattle.unfolding.specs.Unfolded.{Holds, Near, Unfoldable}
 
 always : {A : Type 0} {P : Type 0} → P → (m : Read A) → Got m (λ a st. P)
@@ -57,5 +58,5 @@ module _ (s : List ℕ) (b : Book) (e : readable s ≡ fine b) where
   near = every_as (Every (RuleStands s)) (Every (λ (r : Rule). place_of r.match ≤ book_bytes)) (λ rs. every_as (RuleStands s) (λ (r : Rule). place_of r.match ≤ book_bytes) rule_near rs) b.chains
       (fine_is (BookStands s) (readable s) b (readable_placed s) e)
 
-  pub readable_unfoldable : {first action target expression : List ℕ} {chains rules policy space : ℕ} → Holds b first action target expression chains rules policy → length (words_of (list_of b)) ≤ space → Unfoldable first action target expression chains rules policy space
+  pub readable_unfoldable : {k : Contents} {space : ℕ} → Holds b k → length (words_of (list_of b)) ≤ space → Unfoldable k space
   readable_unfoldable h room = record { book = b; holds = h; free = (readable_is s b e).free; near = near; room = room }

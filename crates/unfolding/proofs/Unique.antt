@@ -2,10 +2,11 @@
 use Prim.Native.Nat.{ℕ}
 use mathlib.Core.Path.{◌≡◌, sym, ◌∙◌}
 use mathlib.Core.List.{List}
+use Rattle.book.specs.declared.Contents.{Contents}
 use Rattle.unfolding.specs.Unfolded.{Unfoldable, Unfolded}
 
-pub unfolded_same : {first action target expression : List ℕ} {chains rules policy space : ℕ} → Unfoldable first action target expression chains rules policy space
-    → {before : List ℕ} {count count' : ℕ} {now now' : List ℕ} → Unfolded first action target expression chains rules policy before count now → Unfolded first action target expression chains rules policy before count' now'
+pub unfolded_same : {k : Contents} {space : ℕ} → Unfoldable k space
+    → {before : List ℕ} {count count' : ℕ} {now now' : List ℕ} → Unfolded k before count now → Unfolded k before count' now'
     → (count ≡ count') × (now ≡ now')
 unfolded_same u one two =
     let a = one u.book u.holds in

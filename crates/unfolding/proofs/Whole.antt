@@ -3,35 +3,37 @@ use Prim.Native.Nat.{ℕ, ◌+◌, ◌≤◌}
 use native.Mathlib.Omega.{arith}
 use mathlib.Core.Path.{◌≡◌, ap, sym, ◌∙◌}
 use mathlib.Core.List.{List, [], ◌++◌}
-use lib.ListN.{length, take, drop, length-append}
+use lib.ListN.{length, drop, length-append}
 use Rattle.model.specs.Limits.{rules_most}
 use Rattle.model.specs.Tree.{Book}
 use Rattle.model.specs.Unfolding.{list_of, words_of}
 use Rattle.model.specs.Filling.{put}
 use Rattle.model.proofs.Filling.{put_put, put_front}
+use Rattle.book.specs.Contents.{verdict_number}
+use Rattle.book.specs.declared.Contents.{Contents}
 use Rattle.unfolding.specs.Emitted.{entry, chain_words}
 use Rattle.unfolding.specs.Walking.{Writable, ChainPre, ChainPost}
 use Rattle.unfolding.specs.Unfolded.{Holds, Unfoldable, Unfolded}
 use Rattle.unfolding.proofs.ListWords.{list_words}
 use Rattle.unfolding.proofs.LoopFreeOrder.{from_entry}
 
-module _ (first action target expression : List ℕ) (chains rules policy : ℕ) (w : List ℕ) (u : Unfoldable first action target expression chains rules policy (length w)) where
+module _ (k : Contents) (w : List ℕ) (u : Unfoldable k (length w)) where
   -- the words before the policy's
   abbrev front : List ℕ
-  front = chain_words first action target expression chains [] 0
+  front = chain_words k k.chains [] 0
 
-  all_words : (b : Book) → Holds b first action target expression chains rules policy → front ++ entry policy rules [] ≡ words_of (list_of b)
-  all_words b h = list_words b first action target expression chains rules h.charted policy h.ends
+  all_words : (b : Book) → Holds b k → front ++ entry (verdict_number k.policy) k.rules [] ≡ words_of (list_of b)
+  all_words b h = list_words b k h.charted (verdict_number k.policy) h.ends
 
-  all_length : (b : Book) → Holds b first action target expression chains rules policy → length front + 3 ≡ length (words_of (list_of b))
-  all_length b h = sym (length-append front (entry policy rules [])) ∙ ap length (all_words b h)
+  all_length : (b : Book) → Holds b k → length front + 3 ≡ length (words_of (list_of b))
+  all_length b h = sym (length-append front (entry (verdict_number k.policy) k.rules [])) ∙ ap length (all_words b h)
 
-  pub few_rules : rules ≤ rules_most
+  pub few_rules : k.rules ≤ rules_most
   few_rules = u.holds.charted.shape.room
 
-  pub entry_pre : (ctx : List ℕ) → length ctx ≡ rules_most → ChainPre first action target expression 0 chains ctx 0 w 0
+  pub entry_pre : (ctx : List ℕ) → length ctx ≡ rules_most → ChainPre k 0 k.chains ctx 0 w 0
   entry_pre ctx e =
-      let f = from_entry u.book first action target expression chains rules u.holds.charted u.free u.near in
+      let f = from_entry u.book k u.holds.charted u.free u.near in
       record {
         order = f.order;
         there = f.there;
@@ -41,12 +43,12 @@ module _ (first action target expression : List ℕ) (chains rules policy : ℕ)
         room = omega (arith, u.room, all_length u.book u.holds);
       }
 
-  module _ (ctx : List ℕ) (to : ℕ) (ctx' w' : List ℕ) (q : ChainPost first action target expression 0 chains ctx 0 w 0 to ctx' w') where
-    pub policy_pre : length w' ≡ length w → Writable ctx' 0 w' to
-    policy_pre e = record { has = omega arith; few = omega arith; room = omega (arith, e, q.count, u.room, all_length u.book u.holds) }
+  module _ (ctx : List ℕ) (to : ℕ) (ctx' w' : List ℕ) (q : ChainPost k 0 k.chains ctx 0 w 0 to ctx' w') where
+    pub policy_pre : length w' ≡ length w → Writable [] w' to
+    policy_pre e = record { few = omega arith; room = omega (arith, e, q.count, u.room, all_length u.book u.holds) }
 
-    pub unfolded : (r : ℕ) (v : List ℕ) → r ≡ to + (0 + 3) → v ≡ put w' to (entry policy rules (take 0 ctx')) → Unfolded first action target expression chains rules policy w r v
+    pub unfolded : (r : ℕ) (v : List ℕ) → r ≡ to + (0 + 3) → v ≡ put w' to (entry (verdict_number k.policy) k.rules []) → Unfolded k w r v
     unfolded r v er ev b h = record {
       counted = omega (arith, er, q.count, all_length b h);
-      words = ev ∙ rw (q.written, q.count) (put_put w 0 front (entry policy rules []) (omega arith)) ∙ put_front w (front ++ entry policy rules []) ∙ ap (λ l. l ++ drop (length l) w) (all_words b h);
+      words = ev ∙ rw (q.written, q.count) (put_put w 0 front (entry (verdict_number k.policy) k.rules []) (omega arith)) ∙ put_front w (front ++ entry (verdict_number k.policy) k.rules []) ∙ ap (λ l. l ++ drop (length l) w) (all_words b h);
     }

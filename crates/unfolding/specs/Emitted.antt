@@ -1,8 +1,9 @@
--- The list's words as they are written from the contents' arrays, the conditions of a place being words already.
-use Rattle.std.specs.Prelude.{ℕ, zero, suc, ◌+◌, ◌*◌, List, [], ◌∷◌, ◌++◌, length, get_or}
+-- The list's words as they are written from the contents, the conditions of a place being words already.
+use Rattle.std.specs.Prelude.{ℕ, zero, suc, ◌+◌, ◌*◌, List, [], ◌∷◌, ◌++◌, length}
 use Rattle.model.specs.Tree.{Action}
 use Rattle.model.specs.Tree.Action.{accept, drop, reject, log, empty, return, call}
-use Rattle.book.specs.Contents.{action_of, rules_in}
+use Rattle.book.specs.Contents.{action_at, expression_at, first_of, rules_in}
+use Rattle.book.specs.declared.Contents.{Contents}
 
 -- a list rule
 abbrev pub entry : ℕ → ℕ → List ℕ → List ℕ
@@ -29,20 +30,16 @@ after cs own return = cs ++ ((own + 1) ∷ [])
 after cs own (call c) = cs
 
 -- the match of rule i, not negated
-abbrev pub own_at : List ℕ → ℕ → ℕ
-own_at expression i = 2 * get_or expression i 0
-
-abbrev pub action_at : List ℕ → List ℕ → ℕ → Action
-action_at action target i = action_of (get_or action i 0) (get_or target i 0)
+abbrev pub own_at : Contents → ℕ → ℕ
+own_at k i = 2 * expression_at k i
 
 -- `left` rules from number i on
-unfoldable pub rules_words : (action target expression : List ℕ) → (List ℕ → ℕ → List ℕ) → List ℕ → ℕ → ℕ → List ℕ
-rules_words action target expression run cs i zero = []
-rules_words action target expression run cs i (suc left) =
-    rule_words run cs i (own_at expression i) (action_at action target i) ++ rules_words action target expression run (after cs (own_at expression i) (action_at action target i)) (i + 1) left
+unfoldable pub rules_words : Contents → (List ℕ → ℕ → List ℕ) → List ℕ → ℕ → ℕ → List ℕ
+rules_words k run cs i zero = []
+rules_words k run cs i (suc left) = rule_words run cs i (own_at k i) (action_at k i) ++ rules_words k run (after cs (own_at k i) (action_at k i)) (i + 1) left
 
 -- chain c, calls nesting at most d deep
-unfoldable pub chain_words : (first action target expression : List ℕ) → ℕ → List ℕ → ℕ → List ℕ
+unfoldable pub chain_words : Contents → ℕ → List ℕ → ℕ → List ℕ
 unfolding rules_words
-chain_words first action target expression zero cs c = []
-chain_words first action target expression (suc d) cs c = rules_words action target expression (chain_words first action target expression d) cs (get_or first c 0) (rules_in first c)
+chain_words k zero cs c = []
+chain_words k (suc d) cs c = rules_words k (chain_words k d) cs (first_of k c) (rules_in k c)

@@ -1,26 +1,16 @@
 -- What the functions that walk the chains rely on and do.
-use Rattle.std.specs.Prelude.{ℕ, ◌+◌, ◌*◌, ◌≤◌, ◌<◌, ◌≡◌, List, [], length, get_or, take}
+use Rattle.std.specs.Prelude.{ℕ, ◌+◌, ◌≤◌, ◌<◌, ◌≡◌, List, length, take}
 use Rattle.model.specs.Limits.{book_bytes, rules_most}
 use Rattle.model.specs.Filling.{put}
-use Rattle.book.specs.Contents.{Shape, rules_in, action_of}
-use Rattle.unfolding.specs.Emitted.{rule_words, after, chain_words}
+use Rattle.model.specs.Tree.Action.{call}
+use Rattle.book.specs.Contents.{Shape, action_at, expression_at, first_of, rules_in}
+use Rattle.book.specs.declared.Contents.{Contents}
+use Rattle.unfolding.specs.Emitted.{chain_words}
 
--- there is room for a list rule with the first `count` words of ctx
-pub record Writable (ctx : List ℕ) (count : ℕ) (words : List ℕ) (at : ℕ) : Type 0 where
-  pub has : count ≤ length ctx
-  pub few : count ≤ rules_most
-  pub room : at + (count + 3) ≤ length words
-
--- what a rule that calls nothing puts into the list
-abbrev pub own_words : ℕ → ℕ → List ℕ → ℕ → List ℕ
-own_words a number ctx m = rule_words (λ cs c. []) (take m ctx) number (get_or ctx m 0) (action_of a 0)
-
-pub record EnterPre (a number : ℕ) (ctx : List ℕ) (m : ℕ) (words : List ℕ) (at : ℕ) : Type 0 where
-  pub plain : ¬ (a ≡ 6)
-  pub slot : m < length ctx
-  pub few : length ctx ≤ rules_most
-  pub near : get_or ctx m 0 ≤ 2 * book_bytes
-  pub room : at + length (own_words a number ctx m) ≤ length words
+-- there is room for a list rule with these conditions
+pub record Writable (cs words : List ℕ) (at : ℕ) : Type 0 where
+  pub few : length cs ≤ rules_most
+  pub room : at + (length cs + 3) ≤ length words
 
 -- After a rule that puts xs into the list and leaves the conditions cs: m' of ctx' are these, and the next list rule goes to `to`.
 pub record Ruled (xs cs ctx : List ℕ) (m : ℕ) (words : List ℕ) (at m' to : ℕ) (ctx' words' : List ℕ) : Type 0 where
@@ -31,30 +21,36 @@ pub record Ruled (xs cs ctx : List ℕ) (m : ℕ) (words : List ℕ) (at m' to :
   pub more : m ≤ m'
   pub one : m' ≤ m + 1
 
-abbrev pub EnterPost : (a number : ℕ) (ctx : List ℕ) (m : ℕ) (words : List ℕ) (at m' to : ℕ) (ctx' words' : List ℕ) → Type 0
-EnterPost a number ctx m = Ruled (own_words a number ctx m) (after (take m ctx) (get_or ctx m 0) (action_of a 0)) ctx m
+-- rule i is one of chain c's
+pub record RuleOf (k : Contents) (c i : ℕ) : Type 0 where
+  pub chain : c < k.chains
+  pub from : first_of k c ≤ i
+  pub upto : i < first_of k (c + 1)
 
--- The arrays can be walked, and no chain reaches itself: rank falls at each call, and so do the rules under a chain, those of the chains that it reaches.
-pub record Ordered (first action target expression : List ℕ) : Type 0 where
-  pub chains : ℕ
-  pub rules : ℕ
-  pub shape : Shape first action target chains rules
-  pub near : (c i : ℕ) → c < chains → get_or first c 0 ≤ i → i < get_or first (c + 1) 0 → get_or expression i 0 ≤ book_bytes
+-- and calls d
+pub record CallOf (k : Contents) (c i d : ℕ) : Type 0 where
+  pub rule : RuleOf k c i
+  pub calls : action_at k i ≡ call d
+
+-- The contents can be walked, and no chain reaches itself: rank falls at each call, and so do the rules under a chain, those of the chains that it reaches.
+pub record Ordered (k : Contents) : Type 0 where
+  pub shape : Shape k
+  pub near : (c i : ℕ) → RuleOf k c i → expression_at k i ≤ book_bytes
   pub rank : ℕ → ℕ
   pub under : ℕ → ℕ
-  pub falls : (c i : ℕ) → c < chains → get_or first c 0 ≤ i → i < get_or first (c + 1) 0 → get_or action i 0 ≡ 6 → rank (get_or target i 0) < rank c
-  pub holds : (c i : ℕ) → c < chains → get_or first c 0 ≤ i → i < get_or first (c + 1) 0 → get_or action i 0 ≡ 6 → rules_in first (get_or target i 0) + under (get_or target i 0) ≤ under c
+  pub falls : (c i d : ℕ) → CallOf k c i d → rank d < rank c
+  pub holds : (c i d : ℕ) → CallOf k c i d → rules_in k d + under d ≤ under c
 
 -- Each rule adds one condition at most: the scratch holds those so far, and one for each rule of the chain and under it.
-pub record ChainPre (first action target expression : List ℕ) (c depth : ℕ) (ctx : List ℕ) (n : ℕ) (words : List ℕ) (at : ℕ) : Type 0 where
-  pub order : Ordered first action target expression
-  pub there : c < order.chains
+pub record ChainPre (k : Contents) (c depth : ℕ) (ctx : List ℕ) (n : ℕ) (words : List ℕ) (at : ℕ) : Type 0 where
+  pub order : Ordered k
+  pub there : c < k.chains
   pub deep : order.rank c < depth
-  pub scratch : n + (rules_in first c + order.under c) ≤ length ctx
+  pub scratch : n + (rules_in k c + order.under c) ≤ length ctx
   pub few : length ctx ≤ rules_most
-  pub room : at + length (chain_words first action target expression depth (take n ctx) c) ≤ length words
+  pub room : at + length (chain_words k depth (take n ctx) c) ≤ length words
 
-pub record ChainPost (first action target expression : List ℕ) (c depth : ℕ) (ctx : List ℕ) (n : ℕ) (words : List ℕ) (at to : ℕ) (ctx' words' : List ℕ) : Type 0 where
-  pub count : to ≡ at + length (chain_words first action target expression depth (take n ctx) c)
-  pub written : words' ≡ put words at (chain_words first action target expression depth (take n ctx) c)
+pub record ChainPost (k : Contents) (c depth : ℕ) (ctx : List ℕ) (n : ℕ) (words : List ℕ) (at to : ℕ) (ctx' words' : List ℕ) : Type 0 where
+  pub count : to ≡ at + length (chain_words k depth (take n ctx) c)
+  pub written : words' ≡ put words at (chain_words k depth (take n ctx) c)
   pub kept : take n ctx' ≡ take n ctx

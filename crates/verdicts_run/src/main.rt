@@ -2,271 +2,277 @@
 // answers and rule numbers, and the books that tell a return's scope.
 #![tactic(auto)]
 
-use book::RuleNumber;
-use listing::Listed;
-use rules::RuleAnswer;
-use verdicts::Verdict;
-use walks::Packet;
+ghost use Rattle.std.specs.Prelude.{◌≤◌};
 
-fn line(text: &[u8], n: u64) {
-    io::write_all(1, text);
-    io::print_decimal(1, n);
-}
+use book::{RuleNumber, Verdict};
+use listing::unfold_book;
+use refusals::Refusal;
+use room::Need;
+use rules::{rule, rule_reading};
+use std::io;
+use verdicts::{chain_verdict, closure, list_verdict};
+use walks::{Packet, Tactic};
 
-fn refused(n: u32, place: usize) {
-    line(b" refused ", n as u64);
-    line(b" place ", place as u64);
-}
-
-fn show_word(n: u32) {
-    line(b" ", n as u64);
-}
-
-fn show_byte(n: u8) {
-    io::write_all(1, b" ");
-    io::print_hex(1, n as u64, 2);
+fn show_need(rt: &HostRuntime, unfolded: Result<Need, Refusal>) -> io::Result<()> {
+    match unfolded {
+        Ok(need) => print!(rt; " needs {} rules {}", need.words, need.rules),
+        Err(refusal) => print!(rt; " {refusal}"),
+    }
 }
 
 // All of the lent words, those behind the list too.
-fn show_words(words: &[u32]) {
-    let mut i: usize = 0;
-    while i < words.len() {
-        show_word(words[i]);
-        i += 1;
+fn show_words(rt: &HostRuntime, words: &[u32]) -> io::Result<()> {
+    for word in words {
+        print!(rt; " {word}")?;
     }
-    io::write_all(1, b"\n");
+    println!(rt; "")
 }
 
-fn show_bytes(part: &[u8]) {
-    let mut i: usize = 0;
-    while i < part.len() {
-        show_byte(part[i]);
-        i += 1;
-    }
-    io::write_all(1, b"\n");
+// Into so many words, each 7 before.
+fn unfolded(rt: &HostRuntime, book: &[u8], n: usize) -> io::Result<()>
+    requires { n ≤ 32 }
+{
+    let mut words = [7u32; 32];
+    let lent = &mut words[..n];
+    print!(rt; "into {n} words:")?;
+    show_need(rt, unfold_book(book, lent))?;
+    print!(rt; " words")?;
+    show_words(rt, lent)
 }
 
-fn unfolded(book: &[u8], words: &mut [u32]) {
-    line(b"into ", words.len() as u64);
-    io::write_all(1, b" words:");
-    let listed = listing::unfold_book(book, words);
-    match listed {
-        Listed::Counts(need, rules) => {
-            line(b" needs ", need as u64);
-            line(b" rules ", rules as u64);
-        }
-        Listed::Refused(n, place) => {
-            refused(n, place);
-        }
-    }
-    io::write_all(1, b" words");
-    show_words(words);
-}
-
-fn say(who: &[u8], verdict: Verdict) {
-    io::write_all(1, who);
+fn say(rt: &HostRuntime, who: &str, verdict: Result<Verdict, Refusal>) -> io::Result<()> {
     match verdict {
-        Verdict::Accept => {
-            io::write_all(1, b" accept");
-        }
-        Verdict::Drop => {
-            io::write_all(1, b" drop");
-        }
-        Verdict::Refused(n, place) => {
-            refused(n, place);
-        }
+        Ok(Verdict::Accept) => print!(rt; "{who} accept"),
+        Ok(Verdict::Drop) => print!(rt; "{who} drop"),
+        Err(refusal) => print!(rt; "{who} {refusal}"),
     }
 }
 
-fn judged(name: &[u8], book: &[u8], answers: &[u8], p: Packet, words: &mut [u32]) {
-    io::write_all(1, name);
-    say(b": chains", verdicts::chain_verdict(book, answers, p));
-    say(b", list", verdicts::list_verdict(book, answers, p, words));
-    say(b", upper", verdicts::closure(book, true, p, words));
-    say(b", lower", verdicts::closure(book, false, p, words));
-    io::write_all(1, b"\n");
+fn judged(
+    rt: &HostRuntime,
+    book: &[u8],
+    answers: &[u8],
+    p: Packet,
+    words: &mut [u32],
+) -> io::Result<()> {
+    say(rt, ": chains", chain_verdict(book, answers, p))?;
+    say(rt, ", list", list_verdict(book, answers, p, words))?;
+    say(rt, ", upper", closure(book, Tactic::Upper, p, words))?;
+    say(rt, ", lower", closure(book, Tactic::Lower, p, words))?;
+    println!(rt; "")
 }
 
-// A packet with these fields besides its source.
-fn fields(name: &[u8], book: &[u8], destination: u32, protocol: u32, service: u32, port: u32) {
+// A packet where no answer is true, and there are words enough.
+fn packet(rt: &HostRuntime, name: &str, book: &[u8], p: Packet) -> io::Result<()> {
     let mut words = [7u32; 16];
-    let answers = [0u8; 32];
-    let p = Packet {
-        source: 15,
-        destination: destination,
-        protocol: protocol,
-        service: service,
-        port: port,
-    };
-    judged(name, book, &answers, p, &mut words);
+    print!(rt; "{name}")?;
+    judged(rt, book, &[0u8; 32], p, &mut words)
 }
 
-// A packet of this source and input port.
-fn packet(name: &[u8], book: &[u8], source: u32, port: u32) {
-    let mut words = [7u32; 16];
-    let answers = [0u8; 32];
-    let p = Packet {
-        source: source,
+// Packets of these sources and input ports.
+fn packets(rt: &HostRuntime, book: &[u8], cases: &[(&str, u32, u32)]) -> io::Result<()> {
+    for &(name, source, port) in cases {
+        let p = Packet {
+            source,
+            destination: 0,
+            protocol: 6,
+            service: 80,
+            port,
+        };
+        packet(rt, name, book, p)?;
+    }
+    Ok(())
+}
+
+// Packets of these destinations, protocols, port numbers and input ports.
+fn fields(rt: &HostRuntime, book: &[u8], cases: &[(&str, u32, u32, u32, u32)]) -> io::Result<()> {
+    for &(name, destination, protocol, service, port) in cases {
+        let p = Packet {
+            source: 15,
+            destination,
+            protocol,
+            service,
+            port,
+        };
+        packet(rt, name, book, p)?;
+    }
+    Ok(())
+}
+
+fn zeros() -> Packet {
+    Packet {
+        source: 0,
         destination: 0,
-        protocol: 6,
-        service: 80,
-        port: port,
-    };
-    judged(name, book, &answers, p, &mut words);
+        protocol: 0,
+        service: 0,
+        port: 0,
+    }
 }
 
 // Answers of which two bytes are given: that of the unread matches 0 to 7, and that of 248 to 255.
-fn answered(name: &[u8], book: &[u8], first: u8, last: u8) {
-    let mut words = [7u32; 16];
-    let mut answers = [0u8; 32];
-    answers[0] = first;
-    answers[31] = last;
-    let p = Packet {
-        source: 0,
-        destination: 0,
-        protocol: 0,
-        service: 0,
-        port: 0,
-    };
-    judged(name, book, &answers, p, &mut words);
-}
-
-fn numbered(book: &[u8], number: u32) {
-    line(b"rule ", number as u64);
-    let answer = rules::rule_reading(book, RuleNumber(number));
-    match answer {
-        RuleAnswer::At(start, end) => {
-            line(b": at ", start as u64);
-            line(b" to ", end as u64);
-        }
-        RuleAnswer::Refused(n, place) => {
-            io::write_all(1, b":");
-            refused(n, place);
-        }
+fn answered(rt: &HostRuntime, book: &[u8], cases: &[(&str, u8, u8)]) -> io::Result<()> {
+    for &(name, first, last) in cases {
+        let mut words = [7u32; 16];
+        let mut answers = [0u8; 32];
+        answers[0] = first;
+        answers[31] = last;
+        print!(rt; "{name}")?;
+        judged(rt, book, &answers, zeros(), &mut words)?;
     }
-    let part = rules::rule(book, RuleNumber(number));
-    io::write_all(1, b" bytes");
-    show_bytes(part);
+    Ok(())
 }
 
-fn c1(book: &[u8]) {
-    io::write_all(1, b"C1\n");
-    let mut few = [7u32; 10];
-    let mut enough = [7u32; 11];
-    let mut more = [7u32; 12];
-    unfolded(book, &mut few);
-    unfolded(book, &mut enough);
-    unfolded(book, &mut more);
-    packet(b"192.168.0.5 by port 0", book, 3232235525, 0);
-    packet(b"192.167.255.255 by port 0", book, 3232235519, 0);
-    packet(b"192.168.0.0 by port 0", book, 3232235520, 0);
-    packet(b"192.168.0.255 by port 0", book, 3232235775, 0);
-    packet(b"192.168.1.0 by port 0", book, 3232235776, 0);
-    packet(b"192.168.1.0 by port 1", book, 3232235776, 1);
-    packet(b"192.168.1.0 by port 4000", book, 3232235776, 4000);
-    numbered(book, 0);
-    numbered(book, 1);
-    numbered(book, 2);
-    numbered(book, 4294967295);
+fn numbered(rt: &HostRuntime, book: &[u8], number: u32) -> io::Result<()> {
+    match rule_reading(book, RuleNumber(number)) {
+        Ok(bytes) => print!(rt; "rule {number}: at {} to {} bytes", bytes.start, bytes.end)?,
+        Err(refusal) => print!(rt; "rule {number}: {refusal} bytes")?,
+    }
+    for byte in rule(book, RuleNumber(number)) {
+        print!(rt; " {byte:02x}")?;
+    }
+    println!(rt; "")
 }
 
-// The answers one byte short, right, and one byte long; words for the list, and too few.
-fn boundaries(book: &[u8]) {
-    io::write_all(1, b"C1, answers and words\n");
+fn c1(rt: &HostRuntime, book: &[u8]) -> io::Result<()> {
+    println!(rt; "C1")?;
+    unfolded(rt, book, 10)?;
+    unfolded(rt, book, 11)?;
+    unfolded(rt, book, 12)?;
+    packets(
+        rt,
+        book,
+        &[
+            ("192.168.0.5 by port 0", 3232235525, 0),
+            ("192.167.255.255 by port 0", 3232235519, 0),
+            ("192.168.0.0 by port 0", 3232235520, 0),
+            ("192.168.0.255 by port 0", 3232235775, 0),
+            ("192.168.1.0 by port 0", 3232235776, 0),
+            ("192.168.1.0 by port 1", 3232235776, 1),
+            ("192.168.1.0 by port 4000", 3232235776, 4000),
+        ],
+    )?;
+    for number in [0, 1, 2, 4294967295] {
+        numbered(rt, book, number)?;
+    }
+    Ok(())
+}
+
+// The answers one byte short, right, and one byte long.
+fn lengths(rt: &HostRuntime, book: &[u8], words: &mut [u32]) -> io::Result<()> {
+    let answers = [0u8; 33];
+    for n in 31..34 {
+        print!(rt; "{n} bytes, {} words", words.len())?;
+        judged(rt, book, &answers[..n], zeros(), words)?;
+    }
+    print!(rt; "{} words after it", words.len())?;
+    show_words(rt, words)
+}
+
+// Too few words for the list, and just enough.
+fn boundaries(rt: &HostRuntime, book: &[u8]) -> io::Result<()> {
+    println!(rt; "C1, answers and words")?;
     let mut few = [7u32; 10];
+    lengths(rt, book, &mut few)?;
     let mut enough = [7u32; 11];
-    let short = [0u8; 31];
-    let right = [0u8; 32];
-    let long = [0u8; 33];
-    let p = Packet {
-        source: 0,
-        destination: 0,
-        protocol: 0,
-        service: 0,
-        port: 0,
-    };
-    judged(b"31 bytes, 10 words", book, &short, p, &mut few);
-    judged(b"32 bytes, 10 words", book, &right, p, &mut few);
-    judged(b"33 bytes, 10 words", book, &long, p, &mut few);
-    io::write_all(1, b"10 words after it");
-    show_words(&few);
-    judged(b"31 bytes, 11 words", book, &short, p, &mut enough);
-    judged(b"32 bytes, 11 words", book, &right, p, &mut enough);
-    judged(b"33 bytes, 11 words", book, &long, p, &mut enough);
-    io::write_all(1, b"11 words after it");
-    show_words(&enough);
+    lengths(rt, book, &mut enough)
 }
 
 // Accept to the destinations 10 to 20, of protocol 17, to port number 53, by port 31; and unless the source is in a range that is none.
-fn each_field(book: &[u8], reversed: &[u8]) {
-    io::write_all(1, b"every field\n");
-    fields(b"all match", book, 10, 17, 53, 31);
-    fields(b"all match, last destination", book, 20, 17, 53, 31);
-    fields(b"destination before", book, 9, 17, 53, 31);
-    fields(b"destination behind", book, 21, 17, 53, 31);
-    fields(b"another protocol", book, 10, 273, 53, 31);
-    fields(b"another port number", book, 10, 17, 65589, 31);
-    fields(b"another port", book, 10, 17, 53, 30);
-    fields(b"a port above all", book, 10, 17, 53, 4294967295);
-    io::write_all(1, b"unless in a reversed range\n");
-    packet(b"source 9", reversed, 9, 0);
-    packet(b"source 5", reversed, 5, 0);
+fn each_field(rt: &HostRuntime) -> io::Result<()> {
+    println!(rt; "every field")?;
+    fields(
+        rt,
+        b"\x01\x01\x01\x01\x00\x02\x04\x05\x0A\x14\x06\x11\x07\x35\x35\x04\x1F",
+        &[
+            ("all match", 10, 17, 53, 31),
+            ("all match, last destination", 20, 17, 53, 31),
+            ("destination before", 9, 17, 53, 31),
+            ("destination behind", 21, 17, 53, 31),
+            ("another protocol", 10, 273, 53, 31),
+            ("another port number", 10, 17, 65589, 31),
+            ("another port", 10, 17, 53, 30),
+            ("a port above all", 10, 17, 53, 4294967295),
+        ],
+    )?;
+    println!(rt; "unless in a reversed range")?;
+    packets(
+        rt,
+        b"\x01\x01\x01\x01\x00\x01\x03\x09\x00",
+        &[("source 9", 9, 0), ("source 5", 5, 0)],
+    )
 }
 
 // A call under an unread match.
-fn c8(book: &[u8]) {
-    io::write_all(1, b"C8\n");
-    let mut enough = [7u32; 13];
-    unfolded(book, &mut enough);
-    answered(b"unread 0 true", book, 1, 0);
-    answered(b"unread 0 false", book, 254, 255);
+fn c8(rt: &HostRuntime, book: &[u8]) -> io::Result<()> {
+    println!(rt; "C8")?;
+    unfolded(rt, book, 13)?;
+    answered(
+        rt,
+        book,
+        &[("unread 0 true", 1, 0), ("unread 0 false", 254, 255)],
+    )
 }
 
-fn unread(not_first: &[u8], last: &[u8]) {
-    io::write_all(1, b"accept unless unread 0\n");
-    answered(b"unread 0 true", not_first, 1, 0);
-    answered(b"unread 0 false", not_first, 254, 255);
-    io::write_all(1, b"accept on unread 255\n");
-    answered(b"unread 255 true", last, 0, 128);
-    answered(b"unread 255 false", last, 255, 127);
+fn unread(rt: &HostRuntime) -> io::Result<()> {
+    println!(rt; "accept unless unread 0")?;
+    answered(
+        rt,
+        b"\x01\x01\x01\x01\x00\x01\x08\x00",
+        &[("unread 0 true", 1, 0), ("unread 0 false", 254, 255)],
+    )?;
+    println!(rt; "accept on unread 255")?;
+    answered(
+        rt,
+        b"\x01\x01\x01\x01\x00\x08\xFF\x01",
+        &[("unread 255 true", 0, 128), ("unread 255 false", 255, 127)],
+    )
 }
 
 // A return's negation stands before what its chain calls later, and is not carried out to the caller.
-fn returns(before: &[u8], called: &[u8], entry: &[u8], other: &[u8]) {
-    let mut nine = [7u32; 9];
-    let mut seven = [7u32; 7];
-    let mut eight = [7u32; 8];
-    io::write_all(1, b"a return before a call\n");
-    unfolded(before, &mut nine);
-    packet(b"source 9", before, 9, 0);
-    packet(b"source 10", before, 10, 0);
-    io::write_all(1, b"a return in a called chain\n");
-    unfolded(called, &mut seven);
-    packet(b"source 9", called, 9, 0);
-    io::write_all(1, b"a return of all in the entry, policy accept\n");
-    unfolded(entry, &mut eight);
-    packet(b"source 9", entry, 9, 0);
-    numbered(entry, 1);
-    io::write_all(1, b"a return of all in the entry, policy drop\n");
-    unfolded(other, &mut eight);
-    packet(b"source 9", other, 9, 0);
+fn returns(rt: &HostRuntime) -> io::Result<()> {
+    let before = b"\x01\x02\x01\x02\x05\x03\x00\x09\x06\x01\x00\x01\x00\x00";
+    println!(rt; "a return before a call")?;
+    unfolded(rt, before, 9)?;
+    packets(rt, before, &[("source 9", 9, 0), ("source 10", 10, 0)])?;
+    let called = b"\x01\x02\x01\x02\x06\x01\x00\x00\x00\x01\x05\x03\x00\x09";
+    println!(rt; "a return in a called chain")?;
+    unfolded(rt, called, 7)?;
+    packets(rt, called, &[("source 9", 9, 0)])
+}
+
+// A return of all ends the entry: the policy judges.
+fn entry_returns(rt: &HostRuntime) -> io::Result<()> {
+    let accept = b"\x01\x01\x00\x02\x05\x00\x01\x00";
+    println!(rt; "a return of all in the entry, policy accept")?;
+    unfolded(rt, accept, 8)?;
+    packets(rt, accept, &[("source 9", 9, 0)])?;
+    numbered(rt, accept, 1)?;
+    let drop = b"\x01\x01\x01\x02\x05\x00\x00\x00";
+    println!(rt; "a return of all in the entry, policy drop")?;
+    unfolded(rt, drop, 8)?;
+    packets(rt, drop, &[("source 9", 9, 0)])
+}
+
+// Any packet, and the first rule.
+fn any(rt: &HostRuntime, book: &[u8]) -> io::Result<()> {
+    packets(rt, book, &[("any", 0, 0)])?;
+    numbered(rt, book, 0)
 }
 
 // The smallest book, an empty one, and chains 1 to 2 to 3 to 2.
-fn ends(smallest: &[u8], c7: &[u8]) {
-    let mut two = [7u32; 2];
-    let mut three = [7u32; 3];
-    io::write_all(1, b"the smallest book\n");
-    unfolded(smallest, &mut two);
-    unfolded(smallest, &mut three);
-    packet(b"any", smallest, 0, 0);
-    numbered(smallest, 0);
-    io::write_all(1, b"C9\n");
-    packet(b"any", b"", 0, 0);
-    numbered(b"", 0);
-    io::write_all(1, b"C7\n");
-    packet(b"any", c7, 0, 0);
-    numbered(c7, 0);
+fn ends(rt: &HostRuntime) -> io::Result<()> {
+    let smallest = b"\x01\x01\x00\x00";
+    println!(rt; "the smallest book")?;
+    unfolded(rt, smallest, 2)?;
+    unfolded(rt, smallest, 3)?;
+    any(rt, smallest)?;
+    println!(rt; "C9")?;
+    any(rt, b"")?;
+    println!(rt; "C7")?;
+    any(
+        rt,
+        b"\x01\x04\x01\x01\x06\x01\x00\x01\x06\x02\x00\x01\x06\x03\x00\x01\x06\x02\x00",
+    )
 }
 
 // An entry that calls a chain of 511 accepts of all 32 times: each call weighs 1 and 511, so the entry weighs 16,384. The accepts are zeros.
@@ -275,12 +281,9 @@ fn heaviest() -> [u8; 1124] {
     b[0] = 1;
     b[1] = 2;
     b[3] = 32;
-    let mut i: usize = 0;
-    while i < 32 {
-        let at = 4 + 3 * i;
-        b[at] = 6;
-        b[at + 1] = 1;
-        i += 1;
+    for i in 0..32 {
+        b[4 + 3 * i] = 6;
+        b[5 + 3 * i] = 1;
     }
     b[100] = 255;
     b[101] = 3;
@@ -288,79 +291,54 @@ fn heaviest() -> [u8; 1124] {
 }
 
 // The word at a place, if there is one.
-fn show_at(words: &[u32], at: usize) {
-    if at < words.len() {
-        show_word(words[at]);
+fn show_at(rt: &HostRuntime, words: &[u32], at: usize) -> io::Result<()> {
+    match words.get(at) {
+        Some(word) => print!(rt; " {word}"),
+        None => Ok(()),
     }
 }
 
 // The counts, the first word, and the last rule where there is one.
-fn counted(book: &[u8], words: &mut [u32]) {
-    line(b"weight 16384 into ", words.len() as u64);
-    io::write_all(1, b" words:");
-    let listed = listing::unfold_book(book, words);
-    match listed {
-        Listed::Counts(need, rules) => {
-            line(b" needs ", need as u64);
-            line(b" rules ", rules as u64);
-        }
-        Listed::Refused(n, place) => {
-            refused(n, place);
-        }
+fn counted(rt: &HostRuntime, book: &[u8], words: &mut [u32]) -> io::Result<()> {
+    print!(rt; "weight 16384 into {} words:", words.len())?;
+    show_need(rt, unfold_book(book, words))?;
+    print!(rt; " first word")?;
+    show_at(rt, words, 0)?;
+    print!(rt; " last")?;
+    for at in 81760..81763 {
+        show_at(rt, words, at)?;
     }
-    io::write_all(1, b" first word");
-    show_at(words, 0);
-    io::write_all(1, b" last");
-    show_at(words, 81760);
-    show_at(words, 81761);
-    show_at(words, 81762);
-    io::write_all(1, b"\n");
+    println!(rt; "")
 }
 
 // 16,352 accepts under two conditions each, and the policy: one word too few, and just enough.
-fn heavy() {
+fn heavy(rt: &HostRuntime) -> io::Result<()> {
     let book = heaviest();
     let mut few = [7u32; 81762];
-    counted(&book, &mut few);
+    counted(rt, &book, &mut few)?;
     let mut enough = [7u32; 81763];
-    counted(&book, &mut enough);
+    counted(rt, &book, &mut enough)
 }
 
 // Three chains within each other, a return ahead of each call and of the innermost accept: each rule has the returns of its own chain
 // before it and of those that lead to it, and none of a chain that was left.
-fn nested(book: &[u8]) {
-    let mut words = [7u32; 25];
-    unfolded(book, &mut words);
+fn nested(rt: &HostRuntime) -> io::Result<()> {
+    let book =
+        b"\x01\x03\x01\x03\x05\x08\x00\x06\x01\x08\x01\x00\x00\x03\x05\x08\x02\x06\x02\x08\x03\x01\x08\x04\x02\x05\x08\x05\x00\x08\x06";
+    unfolded(rt, book, 25)
 }
 
-fn main() {
-    c1(
-        b"\x01\x01\x01\x02\x01\x02\x02\x04\x00\x01\x03\x80\x80\xA0\x85\x0C\xFF\x81\xA0\x85\x0C\x00\x00",
-    );
-    boundaries(
-        b"\x01\x01\x01\x02\x01\x02\x02\x04\x00\x01\x03\x80\x80\xA0\x85\x0C\xFF\x81\xA0\x85\x0C\x00\x00",
-    );
-    each_field(
-        b"\x01\x01\x01\x01\x00\x02\x04\x05\x0A\x14\x06\x11\x07\x35\x35\x04\x1F",
-        b"\x01\x01\x01\x01\x00\x01\x03\x09\x00",
-    );
-    c8(b"\x01\x02\x01\x01\x06\x01\x08\x00\x02\x01\x00\x00\x00");
-    unread(
-        b"\x01\x01\x01\x01\x00\x01\x08\x00",
-        b"\x01\x01\x01\x01\x00\x08\xFF\x01",
-    );
-    returns(
-        b"\x01\x02\x01\x02\x05\x03\x00\x09\x06\x01\x00\x01\x00\x00",
-        b"\x01\x02\x01\x02\x06\x01\x00\x00\x00\x01\x05\x03\x00\x09",
-        b"\x01\x01\x00\x02\x05\x00\x01\x00",
-        b"\x01\x01\x01\x02\x05\x00\x00\x00",
-    );
-    ends(
-        b"\x01\x01\x00\x00",
-        b"\x01\x04\x01\x01\x06\x01\x00\x01\x06\x02\x00\x01\x06\x03\x00\x01\x06\x02\x00",
-    );
-    heavy();
-    nested(
-        b"\x01\x03\x01\x03\x05\x08\x00\x06\x01\x08\x01\x00\x00\x03\x05\x08\x02\x06\x02\x08\x03\x01\x08\x04\x02\x05\x08\x05\x00\x08\x06",
-    );
+fn main(rt: HostRuntime) -> io::Result<()> {
+    let c1_book =
+        b"\x01\x01\x01\x02\x01\x02\x02\x04\x00\x01\x03\x80\x80\xA0\x85\x0C\xFF\x81\xA0\x85\x0C\x00\x00";
+    c1(&rt, c1_book)?;
+    boundaries(&rt, c1_book)?;
+    each_field(&rt)?;
+    c8(&rt, b"\x01\x02\x01\x01\x06\x01\x08\x00\x02\x01\x00\x00\x00")?;
+    unread(&rt)?;
+    returns(&rt)?;
+    entry_returns(&rt)?;
+    ends(&rt)?;
+    heavy(&rt)?;
+    nested(&rt)
 }

@@ -1,5 +1,4 @@
 -- What the proofs of this crate, and of the crates above it, cite.
-pub mod Steps
 pub mod Walks
 pub mod Lists
 pub mod Books

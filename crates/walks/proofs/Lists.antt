@@ -1,11 +1,7 @@
 -- A list in words, rule by rule: the verdict of the rules from a place on is the list's. Assumes nothing.
-use Prim.Native.Nat.{ℕ, ◌+◌, ◌<◌, ◌≤◌}
-use mathlib.Core.Bool.{Bool, true, false}
-use mathlib.Core.List.{List, [], ◌∷◌, ◌++◌, append_assoc}
-use mathlib.Core.Path.{◌≡◌, refl, sym, ◌∙◌, ap, subst}
-use native.Mathlib.Omega.{arith}
-use lib.ListN.{length, get_or, drop, length-append, length-drop}
-use lib.Seq.{drop-drop, get_or-drop, drop_at}
+use Rattle.std.proofs.Common.{ℕ, ◌-◌, ◌<◌, ◌≤◌, Bool, true, false, List, [], ◌∷◌, ◌++◌}
+use Rattle.std.proofs.Common.{◌≡◌, refl, sym, ◌∙◌, ap, subst, arith, length, get_or, take, drop, length-append, append-nil}
+use Rattle.std.proofs.lemmas.List.{take_at, drop_at, take_rest}
 use Rattle.model.specs.Answer.{when}
 use Rattle.model.specs.Ternary.{Tri}
 use Rattle.model.specs.Tree.{Expr}
@@ -16,120 +12,98 @@ use Rattle.model.specs.Verdict.{taken, conditions_value, list_verdict}
 use Rattle.model.proofs.ReadBack.{length_words}
 use Rattle.matching.specs.declared.Asking.{Asking}
 use Rattle.matching.specs.declared.Held.{Held}
-use Rattle.matching.specs.Sight.{rank}
-use Rattle.matching.specs.Conditions.{Written, SeesConditions}
+use Rattle.matching.specs.Sight.{tri_of}
+use Rattle.matching.specs.Conditions.{WrittenAs, SeesConditions}
 use Rattle.matching.proofs.Words.{written_of}
 use Rattle.matching.proofs.Uses.{exact_value, doubtful_value}
 use Rattle.walks.specs.declared.Packet.{Packet}
-use Rattle.walks.specs.Packets.{packet_of, asking_of, leaves_of}
+use Rattle.walks.specs.Packets.{packet_of, header_of, asking_of, leaves_of}
 use Rattle.walks.specs.Lists.{Lists}
 
 -- the value of the conditions of a rule, told the answers or not
-pub conditions_seen : (s answers words : List ℕ) (p : Packet) (told : Bool) (a : Asking) → a ≡ asking_of p told → (from : ℕ) (count : ℕ) (r : Held)
-    → SeesConditions a p.source s answers words from count r → (u : ListRule) → length u.conditions ≡ count → Written s words from u.conditions
-    → rank (conditions_value (value (leaves_of told answers (packet_of p))) u.conditions) ≡ r.value
-conditions_seen s answers words p true a q from count r f u k w =
-    exact_value (asking_of p true) p.source s answers words from count r (subst (λ a. SeesConditions a p.source s answers words from count r) q f) u.conditions k w refl refl
-conditions_seen s answers words p false a q from count r f u k w =
-    doubtful_value (asking_of p false) p.source s answers words from count r (subst (λ a. SeesConditions a p.source s answers words from count r) q f) u.conditions k w refl refl
+pub conditions_seen : (s answers words : List ℕ) (p : Packet) (told : Bool) (a : Asking) → a ≡ asking_of p told → (r : Held) → SeesConditions a p.source s answers words r
+    → (u : ListRule) → WrittenAs s words u.conditions → conditions_value (value (leaves_of told answers (packet_of p))) u.conditions ≡ tri_of r.value
+conditions_seen s answers words p true a q r f u w =
+    exact_value (asking_of p true) p.source s answers words r (subst (λ a. SeesConditions a p.source s answers words r) q f) u.conditions w (header_of p) refl refl
+conditions_seen s answers words p false a q r f u w =
+    doubtful_value (asking_of p false) p.source s answers words r (subst (λ a. SeesConditions a p.source s answers words r) q f) u.conditions w (header_of p) refl refl
 
--- the three words that a rule starts with, and what follows them
-module _ (words : List ℕ) (at a n k : ℕ) (l : List ℕ) (e : drop at words ≡ a ∷ n ∷ k ∷ l) where
-  first_word : a ≡ get_or words at 0
-  first_word = let z : at + 0 ≡ at = omega arith in rw z at (sym (ap (λ d. get_or d 0 0) e) ∙ get_or-drop at words 0 0)
-
-  third_word : k ≡ get_or words (at + 2) 0
-  third_word = sym (ap (λ d. get_or d 2 0) e) ∙ get_or-drop at words 2 0
-
-  past_words : drop (at + 3) words ≡ l
-  past_words = sym (drop-drop 3 at words) ∙ ap (drop 3) e
-
-  words_room : at + 3 + length l ≡ length words
-  words_room = omega (arith, ap length e, length-drop at words)
-
--- these rules stand in the words from a place on, up to `count`, and their verdict is the list's
-pub record Rest (s words : List ℕ) (doubt : ℕ → Bool) (v : Expr → Tri) (list : List ListRule) (count at : ℕ) : Type 0 where
+-- the words are those of these rules, whose verdict is the list's
+pub record Rest (s words : List ℕ) (doubt : ℕ → Bool) (v : Expr → Tri) (list : List ListRule) : Type 0 where
   pub rules : List ListRule
-  pub others : List ℕ
-  pub are : drop at words ≡ words_of rules ++ others
-  pub counted : at + length (words_of rules) ≡ count
-  pub placed : Listed (Placed s) rules
+  pub lists : Lists s words rules
   pub same : list_verdict doubt v rules ≡ list_verdict doubt v list
 
--- the rule at a place, and the rest behind it
-pub record Front (s words : List ℕ) (doubt : ℕ → Bool) (v : Expr → Tri) (list : List ListRule) (count at : ℕ) : Type 0 where
+module _ (s words : List ℕ) (doubt : ℕ → Bool) (v : Expr → Tri) (list : List ListRule) where
+  pub rest_all : Lists s words list → Rest s words doubt v list
+  rest_all l = record { rules = list; lists = l; same = refl }
+
+  pub rest_none : length words < 3 → Rest s words doubt v list → 1 ≡ list_verdict doubt v list
+  unfolding list_verdict words_of
+  rest_none few l = go l.rules l.lists.are l.same
+    where
+      go : (o : List ListRule) → words ≡ words_of o → list_verdict doubt v o ≡ list_verdict doubt v list → 1 ≡ list_verdict doubt v list
+      go [] e q = q
+      go (r ∷ o) e q = let k : length words ≡ length (words_of (r ∷ o)) = ap length e in absurd (omega arith)
+
+-- the rule that the words start with, and the rest behind it
+pub record Front (s : List ℕ) (doubt : ℕ → Bool) (v : Expr → Tri) (list : List ListRule) (action count : ℕ) (behind : List ℕ) : Type 0 where
   pub rule : ListRule
-  pub action : rule.action ≡ get_or words at 0
-  pub conditions : length rule.conditions ≡ get_or words (at + 2) 0
-  pub written : Written s words (at + 3) rule.conditions
-  pub room : at + 3 + get_or words (at + 2) 0 ≤ length words
+  pub action_is : rule.action ≡ action
+  pub room : count ≤ length behind
+  pub written : WrittenAs s (take count behind) rule.conditions
   pub verdict : ℕ
   pub same : when (taken doubt rule.action (conditions_value v rule.conditions)) rule.action verdict ≡ list_verdict doubt v list
-  pub behind : verdict ≡ list_verdict doubt v list → Rest s words doubt v list count (at + 3 + get_or words (at + 2) 0)
+  pub after : verdict ≡ list_verdict doubt v list → Rest s (drop count behind) doubt v list
 
-module _ (s words : List ℕ) (doubt : ℕ → Bool) (v : Expr → Tri) (list : List ListRule) (count : ℕ) where
-  pub rest_all : Lists s words count list → Rest s words doubt v list count 0
-  rest_all l = record {
-    rules = list;
-    others = l.others;
-    are = l.are;
-    counted = omega (arith, l.counted);
-    placed = l.placed;
-    same = refl;
-  }
+module _ (s words : List ℕ) (doubt : ℕ → Bool) (v : Expr → Tri) (list : List ListRule) where
+  abbrev Ahead : Type 0
+  Ahead = Front s doubt v list (get_or words 0 0) (get_or words 2 0) (take (length words - 3) (drop 3 words))
 
-  module _ (at : ℕ) (l : Rest s words doubt v list count at) where
-    pub rest_none : count ≤ at → 1 ≡ list_verdict doubt v list
-    unfolding list_verdict words_of
-    rest_none ge = go l.rules l.counted l.same
-      where
-        go : (o : List ListRule) → at + length (words_of o) ≡ count → list_verdict doubt v o ≡ list_verdict doubt v list → 1 ≡ list_verdict doubt v list
-        go [] k q = q
-        go (r ∷ o) k q = absurd (omega arith)
+  pub front : 3 ≤ length words → Rest s words doubt v list → Ahead
+  unfolding list_verdict words_of
+  front some l = go l.rules l.lists.are l.lists.placed l.same
+    where
+      go : (o : List ListRule) → words ≡ words_of o → Listed (Placed s) o → list_verdict doubt v o ≡ list_verdict doubt v list → Ahead
+      go [] e h q = let k : length words ≡ 0 = ap length e in absurd (omega arith)
+      go (r ∷ o) e h q =
+          let cs = r.conditions in
+          let behind = take (length words - 3) (drop 3 words) in
+          let n : length cs ≡ get_or words 2 0 = sym (ap (λ l. get_or l 2 0) e) in
+          let f : behind ≡ condition_words cs ++ words_of o = take_rest words 3 ∙ ap (drop 3) e in
+          let w : length (condition_words cs) ≡ get_or words 2 0 = length_words cs ∙ n in
+          let t : take (get_or words 2 0) behind ≡ condition_words cs = ap (take (get_or words 2 0)) f ∙ take_at (condition_words cs) (words_of o) (get_or words 2 0) w in
+          record {
+            rule = r;
+            action_is = sym (ap (λ l. get_or l 0 0) e);
+            room = omega (arith, ap length f, length-append (condition_words cs) (words_of o));
+            written = record {
+              counted = sym (ap length t ∙ length_words cs);
+              written = written_of s (take (get_or words 2 0) behind) 0 cs [] (t ∙ sym (append-nil (condition_words cs))) h.0;
+            };
+            verdict = list_verdict doubt v o;
+            same = q;
+            after = λ w'. record {
+              rules = o;
+              lists = record { are = ap (drop (get_or words 2 0)) f ∙ drop_at (condition_words cs) (words_of o) (get_or words 2 0) w; placed = h.1 };
+              same = w';
+            };
+          }
 
-    pub front : at < count → Front s words doubt v list count at
-    unfolding list_verdict words_of
-    front lt = go l.rules l.are l.counted l.placed l.same
-      where
-        go : (o : List ListRule) → drop at words ≡ words_of o ++ l.others → at + length (words_of o) ≡ count → Listed (Placed s) o → list_verdict doubt v o ≡ list_verdict doubt v list
-            → Front s words doubt v list count at
-        go [] e k h q = absurd (omega arith)
-        go (r ∷ o) e k h q =
-            let cs = r.conditions in
-            let tail = words_of o ++ l.others in
-            let rest = (condition_words cs ++ words_of o) ++ l.others in
-            let n : length cs ≡ get_or words (at + 2) 0 = third_word words at r.action r.number (length cs) rest e in
-            let f : drop (at + 3) words ≡ condition_words cs ++ tail = past_words words at r.action r.number (length cs) rest e ∙ append_assoc (condition_words cs) (words_of o) l.others in
-            let g : drop (at + 3 + length cs) words ≡ tail = sym (drop-drop (length cs) (at + 3) words) ∙ ap (drop (length cs)) f ∙ drop_at (condition_words cs) tail (length cs) (length_words cs) in
-            let long : length (condition_words cs ++ words_of o) ≡ length cs + length (words_of o) = length-append (condition_words cs) (words_of o) ∙ ap (λ n. n + length (words_of o)) (length_words cs) in
-            record {
-              rule = r;
-              action = first_word words at r.action r.number (length cs) rest e;
-              conditions = n;
-              written = written_of s words (at + 3) cs tail f h.0;
-              room = omega (arith, words_room words at r.action r.number (length cs) rest e, length-append (condition_words cs ++ words_of o) l.others);
-              verdict = list_verdict doubt v o;
-              same = q;
-              behind = λ w. record {
-                rules = o;
-                others = l.others;
-                are = rw (← n) g;
-                counted = omega (arith, long);
-                placed = h.1;
-                same = w;
-              };
-            }
+module _ {s : List ℕ} {doubt : ℕ → Bool} {v : Expr → Tri} {list : List ListRule} {action count : ℕ} {behind : List ℕ} where
+  -- whether the rule is taken, by its conditions' value
+  module _ (f : Front s doubt v list action count behind) (r : Held) (seen : conditions_value v f.rule.conditions ≡ tri_of r.value)
+      (b : Bool) (takes : b ≡ taken doubt action (tri_of r.value)) where
+    by_rule : (t : Bool) → b ≡ t → when t action f.verdict ≡ list_verdict doubt v list
+    by_rule t e =
+        let same : when (taken doubt f.rule.action (conditions_value v f.rule.conditions)) f.rule.action f.verdict ≡ list_verdict doubt v list = f.same in
+        let z : taken doubt action (tri_of r.value) ≡ t = sym takes ∙ e in
+        rw (← z) (rw (f.action_is, seen) at same)
 
-    -- whether the rule is taken, by the rank of its conditions' value
-    module _ (f : Front s words doubt v list count at) (n : ℕ) (seen : rank (conditions_value v f.rule.conditions) ≡ n)
-        (b : Bool) (takes : (w : Tri) → rank w ≡ n → b ≡ taken doubt (get_or words at 0) w) where
-      by_rule : (t : Bool) → b ≡ t → when t (get_or words at 0) f.verdict ≡ list_verdict doubt v list
-      by_rule t e = ap (λ t. when t (get_or words at 0) f.verdict) (sym e ∙ takes (conditions_value v f.rule.conditions) seen) ∙ rw (← f.action) f.same
+    -- one that is taken decides
+    pub front_taken : b ≡ true → action ≡ list_verdict doubt v list
+    front_taken e = by_rule true e
 
-      -- one that is taken decides
-      pub front_taken : b ≡ true → get_or words at 0 ≡ list_verdict doubt v list
-      front_taken e = by_rule true e
-
-      -- one that is not leaves it to those behind
-      pub front_left : b ≡ false → Rest s words doubt v list count (at + 3 + get_or words (at + 2) 0)
-      front_left e = f.behind (by_rule false e)
+    -- one that is not leaves it to those behind
+    pub front_left : b ≡ false → Rest s (drop count behind) doubt v list
+    front_left e = f.after (by_rule false e)

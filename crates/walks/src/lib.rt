@@ -2,18 +2,17 @@
 #![tactic(auto)]
 
 ghost use Rattle.std.specs.Prelude.{◌≡◌};
-ghost use Rattle.model.specs.Ternary.{Tri};
 ghost use Rattle.model.specs.Verdict.{taken};
-ghost use Rattle.matching.specs.Sight.{rank};
-ghost use Rattle.walks.specs.Packets.{asking_of, tactic};
-ghost use Rattle.walks.specs.Walks.{Ran, Acts, Keeping, HasChain, HasChains, HasRule, WalksRule, WalksChain, ChainsSay};
+ghost use Rattle.matching.specs.Sight.{tri_of};
+ghost use Rattle.walks.specs.Packets.{asking_of, tactic_of};
+ghost use Rattle.walks.specs.Walks.{Keeping, HasChain, HasChains, HasRule, WalksRule, WalksChain, ChainsSay};
 ghost use Rattle.walks.specs.Lists.{Listing, ListSays};
 
-use book::{ChainNumber, RULES, RuleNumber, STARTS};
-use matching::{Asking, eval_conditions, eval_expression};
+use book::{Action, ChainNumber, Contents, RuleNumber, Verdict};
+use matching::{Asking, Header, Truth, eval_conditions, eval_expression};
 
 // Each of any value. `service` is the destination port number, `port` the input port: one above 31 equals none in a book.
-#[derive(Clone, Copy)]
+#[derive(Clone, Copy, PartialEq, Eq)]
 pub struct Packet {
     pub source: u32,
     pub destination: u32,
@@ -22,216 +21,162 @@ pub struct Packet {
     pub port: u32,
 }
 
-// What a chain comes to.
+impl Packet {
+    // All of the packet is known. `told`: the unread matches are, out of the answers.
+    fn asking(self, told: bool) -> Asking
+        ensures { result ≡ asking_of self told }
+    {
+        Asking {
+            port: self.port,
+            header: Some(Header {
+                destination: self.destination,
+                protocol: self.protocol,
+                service: self.service,
+            }),
+            told,
+        }
+    }
+}
+
+// The actions, as numbers of a list's words.
+const ACCEPT: u32 = 0;
+
+const DROP: u32 = 1;
+
+// What a closure does with a rule in doubt: upper takes an accept and skips a drop, and lower the reverse.
+#[derive(Clone, Copy, PartialEq, Eq)]
+pub enum Tactic {
+    Upper,
+    Lower,
+}
+
+impl Tactic {
+    // Whether a rule whose conditions have this value is taken.
+    fn takes(self, action: u32, value: Truth) -> bool
+        ensures { result ≡ taken (tactic_of self) action (tri_of value) }
+    {
+        match value {
+            Truth::No => false,
+            Truth::Unknown => match self {
+                Tactic::Upper => action == ACCEPT,
+                Tactic::Lower => action == DROP,
+            },
+            Truth::Yes => true,
+        }
+    }
+}
+
+// What a rule does to its chain: decides the verdict, ends the chain undecided, or goes on to the rules behind.
 #[derive(Clone, Copy)]
-pub enum Outcome {
-    Accepted,
-    Denied,
-    Undecided,
-}
-
-// What a rule does to its chain: ends it, or leaves it to the rules behind.
-#[derive(Clone, Copy)]
-pub enum Step {
-    End(Outcome),
-    On,
-}
-
-// All of the packet is known. `told`: the unread matches are, out of the answers.
-fn asking(p: Packet, told: bool) -> Asking
-    ensures { result ≡ asking_of p told }
-{
-    Asking {
-        destination: p.destination,
-        protocol: p.protocol,
-        service: p.service,
-        port: p.port,
-        packet: true,
-        told: told,
-    }
-}
-
-// Undecided, a call leaves its own chain to go on behind it.
-fn called(outcome: Outcome) -> Step
-    ensures { Ran outcome result }
-{
-    match outcome {
-        Outcome::Accepted => Step::End(Outcome::Accepted),
-        Outcome::Denied => Step::End(Outcome::Denied),
-        Outcome::Undecided => Step::On,
-    }
-}
-
-// A matching rule that is no call, by the number of its action. The last one left is 0.
-fn acts(action: u8) -> Step
-    requires { action ≡ 6 → ⊥ }
-    ensures { Acts action result }
-{
-    match action {
-        1 => Step::End(Outcome::Denied),
-        2 => Step::End(Outcome::Denied),
-        3 => Step::On,
-        4 => Step::On,
-        5 => Step::End(Outcome::Undecided),
-        _ => Step::End(Outcome::Accepted),
-    }
+enum Step {
+    Decides(Verdict),
+    Leaves,
+    GoesOn,
 }
 
 // One rule of a chain, where calls nest at most `depth` deep.
 #[cycle(walk_chain_walk_rule)]
-fn walk_rule<'a>(
+fn walk_rule(
     s: &[u8],
     answers: &[u8],
     p: Packet,
-    first: &'a [u32; STARTS],
-    action: &'a [u8; RULES],
-    target: &'a [u8; RULES],
-    expression: &'a [u32; RULES],
+    contents: &Contents,
     rule: RuleNumber,
     depth: u32,
 ) -> Step
-    requires { Keeping s.now first.now action.now target.now expression.now (HasRule s.now expression.now rule.0) }
-    ensures { WalksRule s.now answers.now p first.now action.now target.now expression.now rule.0 depth result }
+    requires { Keeping s.now contents.now (HasRule s.now contents.now rule.0) }
+    ensures { WalksRule s.now answers.now p contents.now rule.0 depth result }
 {
-    let i = rule.0 as usize;
-    let at = expression[i] as usize;
-    let seen = eval_expression(s, answers, asking(p, true), p.source, at);
-    if seen.value == 2 {
-        let act = action[i];
-        if act == 6 {
-            let number = target[i] as u32;
-            let outcome = walk_chain(
-                s,
-                answers,
-                p,
-                first,
-                action,
-                target,
-                expression,
-                ChainNumber(number),
-                depth,
-            );
-            return called(outcome);
-        }
-        return acts(act);
+    let noted = contents.noted[rule.0 as usize];
+    let seen = eval_expression(
+        s,
+        answers,
+        p.asking(true),
+        p.source,
+        noted.expression as usize,
+    );
+    if seen.held.value != Truth::Yes {
+        return Step::GoesOn;
     }
-    Step::On
+    match noted.action {
+        Action::Accept => Step::Decides(Verdict::Accept),
+        Action::Drop | Action::Reject => Step::Decides(Verdict::Drop),
+        Action::Log | Action::Empty => Step::GoesOn,
+        Action::Return => Step::Leaves,
+        // Undecided, a call leaves its own chain to go on behind it.
+        Action::Call(chain) => match walk_chain(s, answers, p, contents, chain, depth) {
+            Some(verdict) => Step::Decides(verdict),
+            None => Step::GoesOn,
+        },
+    }
 }
 
-// A chain's rules in their order. The depth falls at each call, so that the walk ends whatever the chains call.
+// A chain's rules in their order: their verdict, if they come to one. The depth falls at each call, so that the walk ends whatever the
+// chains call.
 #[cycle(walk_chain_walk_rule)]
-fn walk_chain<'a>(
+fn walk_chain(
     s: &[u8],
     answers: &[u8],
     p: Packet,
-    first: &'a [u32; STARTS],
-    action: &'a [u8; RULES],
-    target: &'a [u8; RULES],
-    expression: &'a [u32; RULES],
+    contents: &Contents,
     chain: ChainNumber,
     depth: u32,
-) -> Outcome
-    requires { Keeping s.now first.now action.now target.now expression.now (HasChain chain.0) }
-    ensures { WalksChain s.now answers.now p first.now action.now target.now expression.now chain.0 depth result }
+) -> Option<Verdict>
+    requires { Keeping s.now contents.now (HasChain chain.0) }
+    ensures { WalksChain s.now answers.now p contents.now chain.0 depth result }
 {
     if depth == 0 {
-        return Outcome::Undecided;
+        return None;
     }
     let c = chain.0 as usize;
-    let end = first[c + 1];
-    let mut i = first[c];
-    while i < end {
-        let step = walk_rule(
-            s,
-            answers,
-            p,
-            first,
-            action,
-            target,
-            expression,
-            RuleNumber(i),
-            depth - 1,
-        );
-        if let Step::End(outcome) = step {
-            return outcome;
+    for i in contents.first[c]..contents.first[c + 1] {
+        match walk_rule(s, answers, p, contents, RuleNumber(i), depth - 1) {
+            Step::Decides(verdict) => return Some(verdict),
+            Step::Leaves => return None,
+            Step::GoesOn => {}
         }
-        i += 1;
     }
-    Outcome::Undecided
+    None
 }
 
-// The verdict of the chains: 0 accept, 1 drop. Without loops, calls nest no deeper than there are chains.
-pub fn chain_verdict<'a>(
-    s: &[u8],
-    answers: &[u8],
-    p: Packet,
-    first: &'a [u32; STARTS],
-    action: &'a [u8; RULES],
-    target: &'a [u8; RULES],
-    expression: &'a [u32; RULES],
-    chains: usize,
-    policy: u32,
-) -> u32
-    requires { Keeping s.now first.now action.now target.now expression.now (HasChains chains) }
-    ensures { ChainsSay s.now answers.now p first.now action.now target.now expression.now chains policy result }
+// The verdict of the chains. Without loops, calls nest no deeper than there are chains.
+pub fn chain_verdict(s: &[u8], answers: &[u8], p: Packet, contents: &Contents) -> Verdict
+    requires { Keeping s.now contents.now (HasChains contents.now.chains) }
+    ensures { ChainsSay s.now answers.now p contents.now result }
 {
-    let depth = chains as u32;
-    let outcome = walk_chain(
+    walk_chain(
         s,
         answers,
         p,
-        first,
-        action,
-        target,
-        expression,
+        contents,
         ChainNumber(0),
-        depth,
-    );
-    match outcome {
-        Outcome::Accepted => 0,
-        Outcome::Denied => 1,
-        Outcome::Undecided => policy,
-    }
+        contents.chains as u32,
+    )
+    .unwrap_or(contents.policy)
 }
 
-// Whether a rule whose conditions have this value is taken. In doubt, upper takes an accept and skips a drop, and lower the reverse.
-fn takes(upper: bool, action: u32, value: u32) -> bool
-    ensures { (v : Tri) → rank v ≡ value → result ≡ taken (tactic upper) action v }
-{
-    if value == 1 {
-        if upper {
-            return action == 0;
-        }
-        return action == 1;
-    }
-    value == 2
-}
-
-// The verdict of the list in the first `count` words: the action of the first rule that is taken. One function for the exact verdict
-// and the closures: they differ in whether they are told the unread matches, and in what they do in doubt.
+// The verdict of a list: the action of the first rule that is taken. One function for the exact verdict and the closures: they differ in
+// whether they are told the unread matches, and in what they do in doubt. It answers a number, since it promises for lists of any actions.
 pub fn list_verdict(
     s: &[u8],
     answers: &[u8],
-    words: &[u32],
-    count: usize,
+    list: &[u32],
     p: Packet,
     told: bool,
-    upper: bool,
+    tactic: Tactic,
 ) -> u32
-    requires { Listing s.now words.now count }
-    ensures { ListSays s.now answers.now words.now count p told upper result }
+    requires { Listing s.now list.now }
+    ensures { ListSays s.now answers.now list.now p told tactic result }
 {
-    let a = asking(p, told);
-    let mut at: usize = 0;
-    while at < count {
-        let action = words[at];
-        let conditions = words[at + 2] as usize;
-        let from = at + 3;
-        let held = eval_conditions(s, answers, words, a, p.source, from, conditions);
-        if takes(upper, action, held.value) {
-            return action;
+    let asking = p.asking(told);
+    let mut rest = list;
+    while let [action, _, count, behind @ ..] = rest {
+        let (conditions, after) = behind.split_at(*count as usize);
+        let held = eval_conditions(s, answers, conditions, asking, p.source);
+        if tactic.takes(*action, held.value) {
+            return *action;
         }
-        at = from + conditions;
+        rest = after;
     }
-    1
+    DROP
 }

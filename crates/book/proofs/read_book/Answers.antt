@@ -1,25 +1,38 @@
 -- Paths into the laws of BookSteps.
-use mathlib.Core.Path.{sym, ◌∙◌, ap}
-use Rattle.numbers.specs.Told.{told}
-use Rattle.numbers.proofs.Fields.{field_within}
-use Rattle.book.proofs.BookSteps.{too_long, edition_refused, count_refused, header_read}
+use Rattle.std.proofs.lemmas.Result.{err_from_is_err_and}
+use Rattle.book.proofs.BookSteps.{charting_none, too_long, edition_refused, count_refused, few, policy_refused, chains_refused, bytes_after, all_read}
 use Rattle.book.proofs.read_book.Goals as goal
 
 pub returns-then-s-gt-BYTES : goal.returns-then-s-gt-BYTES
-returns-then-s-gt-BYTES c = c.refused.ensures ∙ too_long _ c.if-s-gt-BYTES.true
+returns-then-s-gt-BYTES c = rw c.at.ensures (too_long _ c.if-s-gt-BYTES.true)
 
-pub read_behind_chains-requires : goal.read_behind_chains-requires
-read_behind_chains-requires c =
-    (c.if-s-gt-BYTES.false, (field_within _ _ _ _ _ _ (sym c.read_field-in-Got.ensures ∙ ap told c.in-Got-read_field.is)).1)
+pub returns-in_err-edition : goal.returns-in_err-edition
+returns-in_err-edition c =
+    let p = err_from_is_err_and c.from_residual.result c.from_residual.ensures.1 in
+    rw (p.1, p.2) (edition_refused _ c.if-s-gt-BYTES.false _ _ c.in_err-edition.ensures)
 
-pub returns-in-Refused : goal.returns-in-Refused
-returns-in-Refused c =
-    c.refused-in-Refused.ensures ∙ edition_refused _ c.if-s-gt-BYTES.false _ (sym c.read_field.ensures ∙ ap told c.in-Refused.is)
+pub returns-in_err-chains : goal.returns-in_err-chains
+returns-in_err-chains c =
+    let p = err_from_is_err_and c.from_residual-in_err-chains.result c.from_residual-in_err-chains.ensures.1 in
+    rw (p.1, p.2) (count_refused _ c.if-s-gt-BYTES.false _ c.in_ok-edition.ensures _ _ c.in_err-chains.ensures)
 
-pub returns-in-Refused-read_field : goal.returns-in-Refused-read_field
-returns-in-Refused-read_field c =
-    c.refused-in-Refused-read_field.ensures ∙ count_refused _ c.if-s-gt-BYTES.false _ _ (sym c.read_field.ensures ∙ ap told c.in-Got.is) _ (sym c.read_field-in-Got.ensures ∙ ap told c.in-Refused-read_field.is)
+pub returns-in_err-policy : goal.returns-in_err-policy
+returns-in_err-policy c =
+    let p = err_from_is_err_and c.from_residual-in_err-policy.result c.from_residual-in_err-policy.ensures.1 in
+    rw (p.1, p.2) (policy_refused _ c.if-s-gt-BYTES.false _ c.in_ok-edition.ensures _ c.in_ok-chains.ensures _ _ c.in_err-policy.ensures)
 
-pub returns-in-Got-read_field : goal.returns-in-Got-read_field
-returns-in-Got-read_field c =
-    header_read _ c.if-s-gt-BYTES.false _ _ (sym c.read_field.ensures ∙ ap told c.in-Got.is) _ _ (sym c.read_field-in-Got.ensures ∙ ap told c.in-Got-read_field.is) _ c.read_behind_chains.ensures
+pub read_chains-requires : goal.read_chains-requires
+read_chains-requires c = (c.if-s-gt-BYTES.false, few _ c.if-s-gt-BYTES.false _ c.in_ok-edition.ensures _ c.in_ok-chains.ensures, charting_none _ _)
+
+pub returns-in_err-next : goal.returns-in_err-next
+returns-in_err-next c =
+    let p = err_from_is_err_and c.from_residual-in_err-next.result c.from_residual-in_err-next.ensures.1 in
+    rw (p.1, p.2) (chains_refused _ c.if-s-gt-BYTES.false _ c.in_ok-edition.ensures _ c.in_ok-chains.ensures _ c.in_ok-policy.ensures _ _ c.in_err-next.ensures.answer)
+
+pub returns-then-next-s : goal.returns-then-next-s
+returns-then-next-s c = rw c.at-then-next-s.ensures
+    (bytes_after _ c.if-s-gt-BYTES.false _ c.in_ok-edition.ensures _ c.in_ok-chains.ensures _ c.in_ok-policy.ensures _ c.in_ok-next.ensures.answer c.if-next-s.true)
+
+pub returns : goal.returns
+returns c = all_read _ c.if-s-gt-BYTES.false _ c.in_ok-edition.ensures _ c.in_ok-chains.ensures _ c.in_ok-policy.ensures
+    _ c.in_ok-next.ensures.answer c.if-next-s.false _ c.of.ensures _ c.in_ok-next.ensures.charted

@@ -1,44 +1,43 @@
 -- What is gathered, with the calls of the rules from i on, is what chain c calls.
-use Prim.Native.Nat.{◌+◌, ◌-◌, ◌<◌}
-use native.Mathlib.Omega.{arith}
-use mathlib.Core.Bool.{◌&&◌, ◌||◌}
-use mathlib.Core.Path.{refl}
-use lib.Dec.{eqb}
-use lib.ListN.{get_or}
-use Rattle.calls.specs.Sets.{Relation, in_row, Fit}
-use Rattle.calls.specs.Actions.{calls_at}
-use Rattle.calls.proofs.Rules.{With, a_call, no_call, all_called}
+use Rattle.std.proofs.Common.{◌≤◌, ◌+◌, ◌<◌, ◌&&◌, ◌||◌, eqb, sym, ap, ◌∙◌, arith}
+use Rattle.book.specs.Contents.{said, first_of, rules_in}
+use Rattle.model.specs.Calls.{called}
+use Rattle.calls.specs.Sets.{Relation, in_row}
+use Rattle.calls.specs.Actions.{calls_in}
+use Rattle.calls.proofs.Rules.{part_action, part_calls, silent, a_call, no_call, all_called}
 use Rattle.calls.proofs.add_calls.Goals as goal
-use Rattle.calls.proofs.add_calls.Goals.{then-action-i-eq-CALL, else-action-i-eq-CALL}
-
-pub loop-i-init : goal.loop-i-init
-loop-i-init c = (c.requires.0.rising c.args.c c.requires.1, c.requires.2, λ x e lx le. refl)
+use Rattle.calls.proofs.add_calls.Goals.{in-Call, in_default}
 
 pub add-requires : goal.add-requires
 add-requires c =
-    let inside : c.loop-i.i < c.args.rules = omega (arith, c.requires.0.inside c.args.c c.requires.1) in
-    let called_below : get_or c.args.target.now c.loop-i.i 0 < c.args.chains = c.requires.0.known c.loop-i.i inside c.if-action-i-eq-CALL.true in
-    (c.loop-i.invariant.1, omega (arith, c.requires.1, c.requires.0.few), omega (arith, called_below, c.requires.0.few))
+    let part = c.rules_of-rule-items.ensures in
+    let known = part_calls _ c.requires.0 _ _ c.requires.1 _ part.part (omega (arith, part.count)) _ c.in-Call.is in
+    (omega (arith, c.requires.1, c.requires.0.few), omega (arith, known, c.requires.0.few))
 
-pub loop-i-preserved : goal.loop-i-preserved
-loop-i-preserved c =
+pub loop-rule-preserved : goal.loop-rule-preserved
+loop-rule-preserved c =
     let s = c.args in
-    let end = get_or s.first.now (s.c + 1) 0 in
-    let r : Relation = λ x e. in_row s.sets.now x e || (eqb x s.c && calls_at s.action.now s.target.now e (get_or s.first.now s.c 0) (end - get_or s.first.now s.c 0)) in
-    let lt : c.loop-i.i < end = omega arith in
-    let two : Fit c.if-action-i-eq-CALL.sets × With s.action.now s.target.now s.c end (c.loop-i.i + 1) c.if-action-i-eq-CALL.sets r =
-    elim c.if-action-i-eq-CALL.branch [
-      | then-action-i-eq-CALL w ↦
+    let k = s.contents.now in
+    let end = first_of k (s.c + 1) in
+    let r : Relation = λ x e. in_row s.sets.now x e || (eqb x s.c && calls_in k s.c e) in
+    let i = first_of k s.c + c.loop-rule.rule-index in
+    let part = c.rules_of-rule-items.ensures in
+    let lt : c.loop-rule.rule-index < rules_in k s.c = omega (arith, part.count) in
+    let here = part_action k s.c _ _ part.part lt in
+    let l = c.loop-rule in
+    elim c.match-rule.branch [
+      | in-Call w ↦
           rw w.sets-is
-          (w.add.ensures.fit, a_call s.action.now s.target.now s.c end c.loop-i.i lt c.loop-i.sets r c.loop-i.invariant.2 w.if-action-i-eq-CALL.true _ w.add.ensures)
-      | else-action-i-eq-CALL w ↦
+          (w.add.ensures.fit, a_call k s.c end i _ (omega arith) (omega arith) l.sets r l.invariant.1 w.in-Call.chain.0 (sym here ∙ ap said w.in-Call.is) _ w.add.ensures)
+      | in_default w ↦
           rw w.sets-is
-          (c.loop-i.invariant.1, no_call s.action.now s.target.now s.c end c.loop-i.i lt c.loop-i.sets r c.loop-i.invariant.2 w.if-action-i-eq-CALL.false)
-    ] in
-    (omega arith, two.0, two.1)
+          (l.invariant.0, no_call k s.c end i _ (omega arith) (omega arith) l.sets r l.invariant.1 (ap called (sym here) ∙ silent _ w.in_default.not-Call))
+    ]
 
 pub returns : goal.returns
 returns c =
     let s = c.args in
-    let end = get_or s.first.now (s.c + 1) 0 in
-    record { fit = c.loop-i.invariant.1; bits = all_called s.action.now s.target.now s.c end c.loop-i.i (omega arith) c.loop-i.sets _ c.loop-i.invariant.2 }
+    let k = s.contents.now in
+    let l = c.loop-rule in
+    let past : first_of k (s.c + 1) ≤ first_of k s.c + l.rule-index = omega (arith, c.rules_of-rule-items.ensures.count) in
+    record { fit = l.invariant.0; bits = all_called k s.c _ _ past l.sets _ l.invariant.1 }

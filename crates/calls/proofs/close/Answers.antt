@@ -1,7 +1,5 @@
 -- After k passes the table is the relation with what is in between below k.
-use Prim.Native.Nat.{◌<◌}
-use native.Mathlib.Omega.{arith}
-use mathlib.Core.Path.{◌≡◌, subst}
+use Rattle.std.proofs.Common.{rules, ◌≡◌, ◌<◌, subst, arith}
 use Rattle.calls.specs.Reached.{reach}
 use Rattle.calls.specs.Sets.{in_row, Holds}
 use Rattle.calls.proofs.Tables.{first_round, next_round}
@@ -9,17 +7,14 @@ use Rattle.model.specs.Limits.{chains_most}
 use Rattle.calls.proofs.close.Goals as goal
 
 pub loop-k-init : goal.loop-k-init
-loop-k-init c = (omega arith, record { fit = c.requires.0; bits = λ x e lx le. first_round (in_row c.args.sets.now) x e })
-
-pub pass-requires : goal.pass-requires
-pass-requires c = (c.loop-k.invariant.1.fit, omega (arith, c.requires.1))
+loop-k-init c = record { fit = search rules; bits = λ x e lx le. first_round (in_row c.args.sets.now) x e }
 
 pub loop-k-preserved : goal.loop-k-preserved
 loop-k-preserved c =
-    let k : c.loop-k.k < chains_most = omega (arith, c.requires.1) in
-    (omega arith, next_round (in_row c.args.sets.now) c.loop-k.k c.loop-k.sets c.pass.new.sets k c.loop-k.invariant.1 c.pass.ensures)
+    let k : c.loop-k.k < chains_most = omega (arith, c.requires) in
+    next_round (in_row c.args.sets.now) c.loop-k.k c.loop-k.sets c.pass.new.sets k c.loop-k.invariant c.pass.ensures
 
 pub returns : goal.returns
 returns c =
     let e : c.loop-k.k ≡ c.args.chains = omega arith in
-    subst (λ n. Holds c.loop-k.sets (reach (in_row c.args.sets.now) n)) e c.loop-k.invariant.1
+    subst (λ n. Holds c.loop-k.sets (reach (in_row c.args.sets.now) n)) e c.loop-k.invariant

@@ -1,50 +1,40 @@
 -- What was summed, with the weight of the rules from i on, is the weight of c, up to the limit.
-use Prim.Native.Nat.{ℕ, ◌+◌, ◌≤◌, ◌-◌, ◌<◌}
-use native.Mathlib.Omega.{arith}
-use mathlib.Core.Path.{◌≡◌, ◌∙◌}
-use lib.ListN.{get_or}
+use Rattle.std.proofs.Common.{◌≡◌, ℕ, ◌≤◌, ◌+◌, ◌<◌, sym, ap, ◌∙◌, arith}
+use Rattle.model.specs.Calls.{called, weigh_called}
+use Rattle.book.specs.Contents.{said, action_at, first_of, rules_in}
 use Rattle.calls.specs.Weights.{capped, Weighed}
-use Rattle.calls.specs.Actions.{weigh_at}
-use Rattle.calls.proofs.Rules.{weigh_none, weigh_call, weigh_other}
-use Rattle.calls.specs.Heavy.{heavy}
+use Rattle.calls.proofs.Rules.{part_action, part_calls, silent, weigh_none, weigh_next}
 use Rattle.calls.proofs.weigh.Goals as goal
-use Rattle.calls.proofs.weigh.Goals.{then-action-i-eq-CALL, else-action-i-eq-CALL}
+use Rattle.calls.proofs.weigh.Goals.{in-Call, in_default}
 
-pub loop-i-init : goal.loop-i-init
-loop-i-init c = (omega arith, c.requires.0.rising c.args.c c.requires.1, omega arith, λ w h. omega arith)
+pub bounds-weights-chain : goal.bounds-weights-chain
+bounds-weights-chain c =
+    let part = c.rules_of-rule-items.ensures in
+    omega (arith, part_calls _ c.requires.0 _ _ c.requires.1 _ part.part (omega (arith, part.count)) _ c.in-Call.is, c.requires.0.few)
 
-pub plus-sum-requires : goal.plus-sum-requires
-plus-sum-requires c = (c.loop-i.invariant.2, c.requires.2.most _)
-
-pub plus-sum-requires-else-action-i-eq-CALL : goal.plus-sum-requires-else-action-i-eq-CALL
-plus-sum-requires-else-action-i-eq-CALL c = (c.loop-i.invariant.2, omega arith)
-
-pub loop-i-preserved : goal.loop-i-preserved
-loop-i-preserved c =
+pub loop-rule-preserved : goal.loop-rule-preserved
+loop-rule-preserved c =
     let s = c.args in
-    let a = s.action.now in
-    let t = s.target.now in
-    let end = get_or s.first.now (s.c + 1) 0 in
-    let i = c.loop-i.i in
-    let lt : i < end = omega arith in
-    let from : get_or s.first.now s.c 0 ≤ i = c.loop-i.invariant.0 in
-    let left : (ℕ → ℕ) → ℕ → ℕ = λ w j. weigh_at a t w j (end - j) in
-    let now = c.if-action-i-eq-CALL.sum in
-    let two : (now ≤ heavy) × ((w : ℕ → ℕ) → Weighed s.first.now a t w s.weights.now s.c → capped (now + left w (i + 1)) ≡ capped (c.loop-i.sum + left w i)) =
-    elim c.if-action-i-eq-CALL.branch [
-      | then-action-i-eq-CALL w ↦
-          let f = w.sum-is ∙ w.plus-sum.ensures in
-          let six = w.if-action-i-eq-CALL.true in
-          (omega (arith, f), λ g h. weigh_call a t g i end c.loop-i.sum now lt six _ (h i from lt six) f)
-      | else-action-i-eq-CALL w ↦
-          let f = w.sum-is ∙ w.plus-sum-else-action-i-eq-CALL.ensures in
-          (omega (arith, f), λ g h. weigh_other a t g i end c.loop-i.sum now lt w.if-action-i-eq-CALL.false f)
+    let k = s.contents.now in
+    let end = first_of k (s.c + 1) in
+    let i = first_of k s.c + c.loop-rule.rule-index in
+    let part = c.rules_of-rule-items.ensures in
+    let lt : c.loop-rule.rule-index < rules_in k s.c = omega (arith, part.count) in
+    let here = part_action k s.c _ _ part.part lt in
+    let more : (w : ℕ → ℕ) → Weighed k w s.weights.now s.c → c.match-rule.more ≡ capped (weigh_called w (called (action_at k i))) = λ w h.
+    elim c.match-rule.branch [
+      | in-Call x ↦
+          let calls = sym here ∙ ap said x.in-Call.is in
+          x.more-is ∙ h i x.in-Call.chain.0 (record { from = omega arith; to = omega arith; calls = calls }) ∙ ap (λ a. capped (weigh_called w (called a))) (sym calls)
+      | in_default x ↦ x.more-is ∙ ap (λ l. capped (weigh_called w l)) (sym (ap called (sym here) ∙ silent _ x.in_default.not-Call))
     ] in
-    (omega arith, omega arith, two.0, λ w h. two.1 w h ∙ c.loop-i.invariant.3 w h)
+    let l = c.loop-rule in
+    (omega arith, λ w h. weigh_next k w i _ end l.sum c.match-rule.more _ (omega arith) (omega arith) (more w h) c.min-sum.ensures ∙ l.invariant.1 w h)
 
 pub returns : goal.returns
 returns c =
     let s = c.args in
-    let end = get_or s.first.now (s.c + 1) 0 in
-    let none = λ (w : ℕ → ℕ). weigh_none s.action.now s.target.now w c.loop-i.i end c.loop-i.sum (omega arith) c.loop-i.invariant.2 in
-    (c.loop-i.invariant.2, λ w h. none w ∙ c.loop-i.invariant.3 w h)
+    let k = s.contents.now in
+    let l = c.loop-rule in
+    let past : first_of k (s.c + 1) ≤ first_of k s.c + l.rule-index = omega (arith, c.rules_of-rule-items.ensures.count) in
+    (l.invariant.0, λ w h. weigh_none k w _ _ l.sum past l.invariant.0 ∙ l.invariant.1 w h)

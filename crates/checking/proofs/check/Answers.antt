@@ -1,31 +1,23 @@
 -- `checking::check` meets its contract: the book as it was read, and then the check of its calls. Assumes nothing.
-use mathlib.Core.Path.{◌∙◌, ap}
-use Rattle.checking.proofs.Whole.{read_to, refused_checks, shape, actions, judged_as, ranked}
+use Rattle.std.proofs.lemmas.Result.{err_from_is_err_and}
+use Rattle.checking.proofs.Whole.{read_to, read_refused, shape, charted, checks_refused, checks_pass}
 use Rattle.checking.proofs.check.Goals as goal
 
-pub reached-sets-requires : goal.reached-sets-requires
-reached-sets-requires c =
-    shape (read_to _ c.read_book-answer.result c.read_book-answer.ensures c.in-Fine.is)
+pub returns-in_err-contents : goal.returns-in_err-contents
+returns-in_err-contents c =
+    let p = err_from_is_err_and c.from_residual.result c.from_residual.ensures.1 in
+    rw (p.1, p.2) (read_refused _ _ c.read_book.ensures _ c.in_err-contents.was)
 
-pub ranks-order-requires : goal.ranks-order-requires
-ranks-order-requires c =
-    (shape (read_to _ c.read_book-answer.result c.read_book-answer.ensures c.in-Fine.is)).few
+pub rank_calls-requires : goal.rank_calls-requires
+rank_calls-requires c = shape (read_to _ _ c.read_book.ensures _ c.in_ok-contents.was)
 
-pub check_calls-found-requires : goal.check_calls-found-requires
-check_calls-found-requires c =
-    shape (read_to _ c.read_book-answer.result c.read_book-answer.ensures c.in-Fine.is)
+pub returns-in_err-ranks : goal.returns-in_err-ranks
+returns-in_err-ranks c =
+    let p = err_from_is_err_and c.from_residual-in_err-ranks.result c.from_residual-in_err-ranks.ensures.1 in
+    let t = read_to _ _ c.read_book.ensures _ c.in_ok-contents.was in
+    rw (p.1, p.2) (checks_refused t _ _ (c.rank_calls.ensures t.book t.stand (charted t)) c.in_err-ranks.was)
 
-pub returns-in-Refused : goal.returns-in-Refused
-returns-in-Refused c =
-    refused_checks _ c.read_book-answer.result c.read_book-answer.ensures _ _ c.in-Refused.is _
-
-pub returns-in-Fine : goal.returns-in-Fine
-returns-in-Fine c =
-    let read = c.read_book-answer in
-    let t = read_to _ read.result read.ensures c.in-Fine.is in
-    let found = c.check_calls-found in
-    record {
-      answer = c.judged-reading.ensures ∙ judged_as t found.result (found.ensures t.book t.stand (actions t) (c.reached-sets.ensures t.book (actions t)));
-      contents = ap (λ x. x.contents) read.ensures;
-      ranked = λ b h. ranked t b h c.reached-sets.result (c.reached-sets.ensures t.book (actions t)) c.ranks-order.result c.ranks-order.ensures;
-    }
+pub returns : goal.returns
+returns c =
+    let t = read_to _ _ c.read_book.ensures _ c.in_ok-contents.was in
+    checks_pass t _ _ (c.rank_calls.ensures t.book t.stand (charted t)) c.in_ok-ranks.was

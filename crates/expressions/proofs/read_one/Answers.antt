@@ -1,13 +1,12 @@
 -- `expressions::read_one` meets its contract. Assumes nothing.
-use mathlib.Core.Path.{sym, ◌∙◌, ap}
-use Rattle.numbers.specs.Told as number
-use Rattle.expressions.proofs.Fields.{one_refused, one_got}
+use Rattle.std.proofs.lemmas.Result.{err_from_is_err_and}
+use Rattle.expressions.proofs.Fields.{one}
 use Rattle.expressions.proofs.read_one.Goals as goal
 
-pub returns-in-Refused : goal.returns-in-Refused
-returns-in-Refused c =
-    one_refused _ _ _ _ _ (sym c.read_field.ensures ∙ ap number.told c.in-Refused.is)
+pub returns-in_err-number : goal.returns-in_err-number
+returns-in_err-number c =
+    let p = err_from_is_err_and c.from_residual.result c.from_residual.ensures.1 in
+    rw (p.1, p.2) (one _ _ _ _ _ c.in_err-number.ensures)
 
-pub returns-in-Got : goal.returns-in-Got
-returns-in-Got c =
-    one_got _ _ _ _ _ _ (sym c.read_field.ensures ∙ ap number.told c.in-Got.is)
+pub returns : goal.returns
+returns c = one _ _ _ _ _ c.in_ok-number.ensures

@@ -1,42 +1,52 @@
 -- `expressions::read_plain` meets its contract: a law for each kind. Assumes nothing.
-use Prim.Native.Nat.{zero-le}
-use Rattle.expressions.proofs.ByKind.{is_always, is_source, is_too_many, is_port, is_destination, is_protocol, is_service, is_unread, is_no_kind, above}
+use Rattle.std.proofs.Common.{◌≡◌, refl, ap}
+use Rattle.expressions.specs.Kinds.{kind_number}
+use Rattle.expressions.specs.declared.Kind.{Kind}
+use Rattle.expressions.specs.declared.Kind.TheVariants.{Always, Not, All, Source, Port, Destination, Protocol, Service, Unread}
+use Rattle.expressions.proofs.ByKind.{is_always, is_source, is_too_many, is_port, is_destination, is_protocol, is_service, is_unread}
 use Rattle.expressions.proofs.read_plain.Goals as goal
 
-pub returns-then-kind-eq0 : goal.returns-then-kind-eq0
-returns-then-kind-eq0 c = is_always _ _ _ _ _ c.requires.stands c.if-kind-eq0.true
+pub returns-in-Source : goal.returns-in-Source
+returns-in-Source c =
+    rw c.at.ensures (is_too_many _ _ _ _ _ c.requires.stands (ap kind_number c.in-Source.is) c.if-sources-ge-SOURCES.true)
 
-pub returns-then-sources-lt-SOURCES : goal.returns-then-sources-lt-SOURCES
-returns-then-sources-lt-SOURCES c =
-    is_source _ _ _ _ _ c.requires.stands c.if-kind-eq3.true c.if-sources-lt-SOURCES.true _ c.read_two.ensures
+pub returns-in-Source-2 : goal.returns-in-Source-2
+returns-in-Source-2 c =
+    is_source _ _ _ _ _ c.requires.stands (ap kind_number c.in-Source.is) c.if-sources-ge-SOURCES.false _ c.read_two.ensures
 
-pub returns-then-kind-eq3 : goal.returns-then-kind-eq3
-returns-then-kind-eq3 c =
-    is_too_many _ _ _ _ _ c.requires.stands c.if-kind-eq3.true c.if-sources-lt-SOURCES.false
+pub returns-in-Port : goal.returns-in-Port
+returns-in-Port c = is_port _ _ _ _ _ c.requires.stands (ap kind_number c.in-Port.is) _ c.read_one.ensures
 
-pub returns-then-kind-eq4 : goal.returns-then-kind-eq4
-returns-then-kind-eq4 c =
-    is_port _ _ _ _ _ c.requires.stands c.if-kind-eq4.true _ c.read_one.ensures
+pub returns-in-Destination : goal.returns-in-Destination
+returns-in-Destination c =
+    is_destination _ _ _ _ _ c.requires.stands (ap kind_number c.in-Destination.is) _ c.read_two-in-Destination.ensures
 
-pub returns-then-kind-eq5 : goal.returns-then-kind-eq5
-returns-then-kind-eq5 c =
-    is_destination _ _ _ _ _ c.requires.stands c.if-kind-eq5.true _ c.read_two-then-kind-eq5.ensures
+pub returns-in-Protocol : goal.returns-in-Protocol
+returns-in-Protocol c =
+    is_protocol _ _ _ _ _ c.requires.stands (ap kind_number c.in-Protocol.is) _ c.read_one-in-Protocol.ensures
 
-pub returns-then-kind-eq6 : goal.returns-then-kind-eq6
-returns-then-kind-eq6 c =
-    is_protocol _ _ _ _ _ c.requires.stands c.if-kind-eq6.true _ c.read_one-then-kind-eq6.ensures
+pub returns-in-Service : goal.returns-in-Service
+returns-in-Service c =
+    is_service _ _ _ _ _ c.requires.stands (ap kind_number c.in-Service.is) _ c.read_two-in-Service.ensures
 
-pub returns-then-kind-eq7 : goal.returns-then-kind-eq7
-returns-then-kind-eq7 c =
-    is_service _ _ _ _ _ c.requires.stands c.if-kind-eq7.true _ c.read_two-then-kind-eq7.ensures
+pub returns-in-Unread : goal.returns-in-Unread
+returns-in-Unread c = is_unread _ _ _ _ _ c.requires.stands (ap kind_number c.in-Unread.is) _ c.read_one-in-Unread.ensures
 
-pub returns-then-kind-eq8 : goal.returns-then-kind-eq8
-returns-then-kind-eq8 c =
-    is_unread _ _ _ _ _ c.requires.stands c.if-kind-eq8.true _ c.read_one-then-kind-eq8.ensures
+-- no other kind is left
+only_always : (k : Kind) → (k ≡ Not → ⊥) → (k ≡ All → ⊥) → (k ≡ Source → ⊥) → (k ≡ Port → ⊥) → (k ≡ Destination → ⊥) → (k ≡ Protocol → ⊥)
+    → (k ≡ Service → ⊥) → (k ≡ Unread → ⊥) → kind_number k ≡ 0
+only_always Always a b d e f g h i = refl
+only_always Not a b d e f g h i = absurd (a refl)
+only_always All a b d e f g h i = absurd (b refl)
+only_always Source a b d e f g h i = absurd (d refl)
+only_always Port a b d e f g h i = absurd (e refl)
+only_always Destination a b d e f g h i = absurd (f refl)
+only_always Protocol a b d e f g h i = absurd (g refl)
+only_always Service a b d e f g h i = absurd (h refl)
+only_always Unread a b d e f g h i = absurd (i refl)
 
-pub returns : goal.returns
-returns c =
-    is_no_kind _ _ _ _ _ c.requires.stands
-    (above 8 (above 7 (above 6 (above 5 (above 4 (above 3 (above 2 (above 1 (above 0 zero-le
-    c.if-kind-eq0.false) c.requires.single) c.requires.several) c.if-kind-eq3.false) c.if-kind-eq4.false) c.if-kind-eq5.false)
-    c.if-kind-eq6.false) c.if-kind-eq7.false) c.if-kind-eq8.false)
+pub returns-in_default : goal.returns-in_default
+returns-in_default c =
+    let d = c.in_default in
+    let k = only_always _ c.requires.single c.requires.several d.not-Source d.not-Port d.not-Destination d.not-Protocol d.not-Service d.not-Unread in
+    is_always _ _ _ _ _ c.requires.stands k

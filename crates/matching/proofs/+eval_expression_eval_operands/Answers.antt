@@ -1,76 +1,132 @@
 -- The answers of the cycle of calls {eval_expression, eval_operands}: each goes by what is seen inside. Assumes nothing.
-use native.Mathlib.Omega.{arith}
+use Rattle.std.proofs.Common.{◌≡◌, refl, sym, arith}
+use Rattle.model.specs.Number.{numeral, number_at}
 use Rattle.model.specs.Standing.{Standing}
+use Rattle.model.specs.Tree.Leaf.{source, destination, service, port, protocol, unread}
 use Rattle.model.proofs.NumberPast.{number_past}
-use Rattle.matching.specs.Sight.{Rest}
-use Rattle.matching.proofs.Inside.{rest_of, by_kind, inside_nay, by_nay, seen_most, Counted, inside_every, counted_legible, counted_standing, by_every, left_all, left_more, left_none, left_standing, seen_past}
+use Rattle.matching.proofs.Inside.{rest_of, kind_here, inside_not, inside_all, counted_legible, counted_standing, row_of, inside_leaf, first_legible, pair_of}
+use Rattle.matching.proofs.Inside.{sees_always, sees_leaf, sees_not, sees_all, seen_past, sees_ever, left_all, left_standing, left_more, left_none}
 use Rattle.matching.proofs.+eval_expression_eval_operands.Goals as goal
 
-pub eval_expression-eval_expression-r-requires : goal.eval_expression-eval_expression-r-requires
-eval_expression-eval_expression-r-requires t c =
-    let k = c.number_here-kind in
-    let rest : Rest c.args.s.now k.result.value k.result.next = rest_of _ _ _ _ k.ensures c.requires in
-    (omega (arith, number_past _ _ _ _ k.ensures), inside_nay _ _ _ c.if-kind-eq1.true rest)
+pub eval_expression-eval_expression-inner-requires : goal.eval_expression-eval_expression-inner-requires
+eval_expression-eval_expression-inner-requires t c =
+    let k = c.number_here-number in
+    (omega (arith, number_past _ _ _ _ k.ensures), inside_not _ _ (rest_of _ _ _ _ (kind_here _ _ _ _ _ _ k.ensures c.in-Ok.ensures c.in-Not.is) c.requires))
 
-pub eval_expression-overflow_sub-value : goal.eval_expression-overflow_sub-value
-eval_expression-overflow_sub-value t c =
-    let a = c.args in let k = c.number_here-kind in
-    let rest : Rest a.s.now k.result.value k.result.next = rest_of _ _ _ _ k.ensures c.requires in
-    seen_most a.a a.source a.s.now a.answers.now _ c.eval_expression-r.result c.eval_expression-r.ensures (inside_nay _ _ _ c.if-kind-eq1.true rest)
-
-pub eval_expression-returns-then-kind-eq1 : goal.eval_expression-returns-then-kind-eq1
-eval_expression-returns-then-kind-eq1 t c =
-    let a = c.args in
-    by_kind a.s.now a.at _ _ c.number_here-kind.ensures a.a a.source a.answers.now _
-    (by_nay a.a a.source a.s.now a.answers.now _ _ c.if-kind-eq1.true c.eval_expression-r.result c.eval_expression-r.ensures)
+pub eval_expression-returns-in-Not : goal.eval_expression-returns-in-Not
+eval_expression-returns-in-Not t c =
+    let k = c.number_here-number in let r = c.eval_expression-inner in
+    let q : number_at c.args.s.now c.args.at ≡ numeral 1 k.result.next = kind_here _ _ _ _ _ _ k.ensures c.in-Ok.ensures c.in-Not.is in
+    sees_not _ _ _ _ _ _ _ q _ refl (inside_not _ _ (rest_of _ _ _ _ q c.requires)) r.result r.ensures c.not.ensures refl
 
 pub eval_expression-number_here-count-requires : goal.eval_expression-number_here-count-requires
 eval_expression-number_here-count-requires t c =
-    let k = c.number_here-kind in
-    let rest : Rest c.args.s.now k.result.value k.result.next = rest_of _ _ _ _ k.ensures c.requires in
-    counted_legible _ _ (inside_every _ _ _ c.if-kind-eq2.true rest)
+    let k = c.number_here-number in
+    counted_legible (inside_all _ _ (rest_of _ _ _ _ (kind_here _ _ _ _ _ _ k.ensures c.in-Ok.ensures c.in-All.is) c.requires))
 
 pub eval_expression-eval_operands-requires : goal.eval_expression-eval_operands-requires
 eval_expression-eval_operands-requires t c =
-    let k = c.number_here-kind in let n = c.number_here-count in
-    let rest : Rest c.args.s.now k.result.value k.result.next = rest_of _ _ _ _ k.ensures c.requires in
-    let counted : Counted c.args.s.now k.result.next = inside_every _ _ _ c.if-kind-eq2.true rest in
-    (omega (arith, number_past _ _ _ _ k.ensures, number_past _ _ _ _ n.ensures), counted_standing _ _ _ _ n.ensures counted)
-
-pub eval_expression-returns-then-kind-eq2 : goal.eval_expression-returns-then-kind-eq2
-eval_expression-returns-then-kind-eq2 t c =
-    let a = c.args in
-    by_kind a.s.now a.at _ _ c.number_here-kind.ensures a.a a.source a.answers.now _
-    (by_every a.a a.source a.s.now a.answers.now _ _ c.if-kind-eq2.true _ _ c.number_here-count.ensures c.eval_operands.result c.eval_operands.ensures)
-
-pub eval_expression-eval_leaf-requires : goal.eval_expression-eval_leaf-requires
-eval_expression-eval_leaf-requires t c = (rest_of _ _ _ _ c.number_here-kind.ensures c.requires, (c.if-kind-eq1.false, c.if-kind-eq2.false))
-
-pub eval_expression-returns : goal.eval_expression-returns
-eval_expression-returns t c =
-    let a = c.args in
-    by_kind a.s.now a.at _ _ c.number_here-kind.ensures a.a a.source a.answers.now c.eval_leaf.result c.eval_leaf.ensures
-
-pub eval_operands-loop-left-init : goal.eval_operands-loop-left-init
-eval_operands-loop-left-init t c =
-    let a = c.args in
-    (omega arith, λ es next k o. left_all a.a a.source a.s.now a.answers.now es next a.at a.count _ (omega (arith, c.ranges.source)) k o)
-
-pub eval_operands-eval_expression-r-requires : goal.eval_operands-eval_expression-r-requires
-eval_operands-eval_expression-r-requires t c =
-    let l = c.loop-left in let p = c.requires in
-    (omega (arith, l.invariant.0), left_standing _ _ _ _ _ _ _ _ _ (l.invariant.1 p.operands p.next p.count p.stands) c.loop-left-test.true)
-
-pub eval_operands-loop-left-preserved : goal.eval_operands-loop-left-preserved
-eval_operands-loop-left-preserved t c =
-    let a = c.args in let l = c.loop-left in let p = c.requires in let r = c.eval_expression-r in
-    let standing : Standing a.s.now l.place = left_standing _ _ _ _ _ _ _ _ _ (l.invariant.1 p.operands p.next p.count p.stands) c.loop-left-test.true in (
-      omega (arith, l.invariant.0, seen_past a.a a.source a.s.now a.answers.now _ r.result r.ensures standing),
-      λ es next k o. left_more a.a a.source a.s.now a.answers.now es next l.held l.place l.left (l.invariant.1 es next k o) c.loop-left-test.true
-          r.result c.both-held.result r.ensures c.both-held.ensures,
+    let k = c.number_here-number in let n = c.number_here-count in (
+      omega (arith, number_past _ _ _ _ k.ensures, number_past _ _ _ _ n.ensures),
+      counted_standing _ _ n.ensures (inside_all _ _ (rest_of _ _ _ _ (kind_here _ _ _ _ _ _ k.ensures c.in-Ok.ensures c.in-All.is) c.requires)),
     )
+
+pub eval_expression-returns-in-All : goal.eval_expression-returns-in-All
+eval_expression-returns-in-All t c =
+    let k = c.number_here-number in let n = c.number_here-count in
+    let q : number_at c.args.s.now c.args.at ≡ numeral 2 k.result.next = kind_here _ _ _ _ _ _ k.ensures c.in-Ok.ensures c.in-All.is in
+    sees_all _ _ _ _ _ _ _ q _ refl _ _ n.ensures (counted_standing _ _ n.ensures (inside_all _ _ (rest_of _ _ _ _ q c.requires))) c.eval_operands.ensures
+
+pub eval_expression-returns-in-Always : goal.eval_expression-returns-in-Always
+eval_expression-returns-in-Always t c =
+    let k = c.number_here-number in
+    sees_always _ _ _ _ _ _ _ (kind_here _ _ _ _ _ _ k.ensures c.in-Ok.ensures c.in-Always.is) _ refl refl
+    (sees_ever _ _ _ _ c.ever.ensures (omega (arith, c.ranges.source)) (λ y. refl))
+
+pub eval_expression-limits_here-limits-requires : goal.eval_expression-limits_here-limits-requires
+eval_expression-limits_here-limits-requires t c =
+    pair_of refl (inside_leaf _ 3 _ (omega arith) (rest_of _ _ _ _ (kind_here _ _ _ _ _ _ c.number_here-number.ensures c.in-Ok.ensures c.in-Source.is) c.requires))
+
+pub eval_expression-returns-in-Source : goal.eval_expression-returns-in-Source
+eval_expression-returns-in-Source t c =
+    let k = c.number_here-number in let r = c.limits_here-limits in
+    sees_leaf _ _ _ _ _ _ _ (kind_here _ _ _ _ _ _ k.ensures c.in-Ok.ensures c.in-Source.is) _ (source r.result.low r.result.high) refl r.ensures c.hold.ensures
+
+pub eval_expression-number_here-port-requires : goal.eval_expression-number_here-port-requires
+eval_expression-number_here-port-requires t c =
+    first_legible (inside_leaf _ 4 _ (omega arith) (rest_of _ _ _ _ (kind_here _ _ _ _ _ _ c.number_here-number.ensures c.in-Ok.ensures c.in-Port.is) c.requires))
+
+pub eval_expression-returns-in-Port : goal.eval_expression-returns-in-Port
+eval_expression-returns-in-Port t c =
+    let k = c.number_here-number in let r = c.number_here-port in
+    sees_leaf _ _ _ _ _ _ _ (kind_here _ _ _ _ _ _ k.ensures c.in-Ok.ensures c.in-Port.is) _ (port r.result.value) refl (row_of _ _ _ _ r.ensures)
+    (sees_ever _ _ _ _ c.ever-in-Port.ensures (omega (arith, c.ranges.source)) (λ y. sym c.from.ensures))
+
+pub eval_expression-limits_here-limits-requires-in-Destination : goal.eval_expression-limits_here-limits-requires-in-Destination
+eval_expression-limits_here-limits-requires-in-Destination t c =
+    pair_of refl (inside_leaf _ 5 _ (omega arith) (rest_of _ _ _ _ (kind_here _ _ _ _ _ _ c.number_here-number.ensures c.in-Ok.ensures c.in-Destination.is) c.requires))
+
+pub eval_expression-returns-in-Destination : goal.eval_expression-returns-in-Destination
+eval_expression-returns-in-Destination t c =
+    let k = c.number_here-number in let r = c.limits_here-limits-in-Destination in
+    sees_leaf _ _ _ _ _ _ _ (kind_here _ _ _ _ _ _ k.ensures c.in-Ok.ensures c.in-Destination.is) _ (destination r.result.low r.result.high) refl r.ensures
+    (sees_ever _ _ _ _ c.ever-in-Destination.ensures (omega (arith, c.ranges.source)) (λ y. sym c.destination_in.ensures))
+
+pub eval_expression-number_here-protocol-requires : goal.eval_expression-number_here-protocol-requires
+eval_expression-number_here-protocol-requires t c =
+    first_legible (inside_leaf _ 6 _ (omega arith) (rest_of _ _ _ _ (kind_here _ _ _ _ _ _ c.number_here-number.ensures c.in-Ok.ensures c.in-Protocol.is) c.requires))
+
+pub eval_expression-returns-in-Protocol : goal.eval_expression-returns-in-Protocol
+eval_expression-returns-in-Protocol t c =
+    let k = c.number_here-number in let r = c.number_here-protocol in
+    sees_leaf _ _ _ _ _ _ _ (kind_here _ _ _ _ _ _ k.ensures c.in-Ok.ensures c.in-Protocol.is) _ (protocol r.result.value) refl (row_of _ _ _ _ r.ensures)
+    (sees_ever _ _ _ _ c.ever-in-Protocol.ensures (omega (arith, c.ranges.source)) (λ y. sym c.protocol_is.ensures))
+
+pub eval_expression-limits_here-limits-requires-in-Service : goal.eval_expression-limits_here-limits-requires-in-Service
+eval_expression-limits_here-limits-requires-in-Service t c =
+    pair_of refl (inside_leaf _ 7 _ (omega arith) (rest_of _ _ _ _ (kind_here _ _ _ _ _ _ c.number_here-number.ensures c.in-Ok.ensures c.in-Service.is) c.requires))
+
+pub eval_expression-returns-in-Service : goal.eval_expression-returns-in-Service
+eval_expression-returns-in-Service t c =
+    let k = c.number_here-number in let r = c.limits_here-limits-in-Service in
+    sees_leaf _ _ _ _ _ _ _ (kind_here _ _ _ _ _ _ k.ensures c.in-Ok.ensures c.in-Service.is) _ (service r.result.low r.result.high) refl r.ensures
+    (sees_ever _ _ _ _ c.ever-in-Service.ensures (omega (arith, c.ranges.source)) (λ y. sym c.service_in.ensures))
+
+pub eval_expression-number_here-unread-requires : goal.eval_expression-number_here-unread-requires
+eval_expression-number_here-unread-requires t c =
+    first_legible (inside_leaf _ 8 _ (omega arith) (rest_of _ _ _ _ (kind_here _ _ _ _ _ _ c.number_here-number.ensures c.in-Ok.ensures c.in-Unread.is) c.requires))
+
+pub eval_expression-returns-in-Unread : goal.eval_expression-returns-in-Unread
+eval_expression-returns-in-Unread t c =
+    let k = c.number_here-number in let r = c.number_here-unread in
+    sees_leaf _ _ _ _ _ _ _ (kind_here _ _ _ _ _ _ k.ensures c.in-Ok.ensures c.in-Unread.is) _ (unread r.result.value) refl (row_of _ _ _ _ r.ensures)
+    (sees_ever _ _ _ _ c.ever-in-Unread.ensures (omega (arith, c.ranges.source)) (λ y. sym c.unread.ensures))
+
+pub eval_operands-loop-init : goal.eval_operands-loop-init
+eval_operands-loop-init t c =
+    let a = c.args in
+    record {
+      ahead = omega arith;
+      left = λ es next k o. left_all a.a a.source a.s.now a.answers.now es next _ (sees_ever _ _ _ _ c.ever.ensures (omega (arith, c.ranges.source)) (λ y. refl)) o;
+    }
+
+pub eval_operands-eval_expression-operand-requires : goal.eval_operands-eval_expression-operand-requires
+eval_operands-eval_expression-operand-requires t c =
+    let l = c.loop in let p = c.requires in
+    (omega (arith, l.invariant.ahead), left_standing _ _ _ _ _ _ _ _ (l.invariant.left p.operands p.next p.count p.stands) (omega (arith, c.loop-test.true, p.count)))
+
+pub eval_operands-loop-preserved : goal.eval_operands-loop-preserved
+eval_operands-loop-preserved t c =
+    let a = c.args in let l = c.loop in let p = c.requires in let r = c.eval_expression-operand in
+    let standing : Standing a.s.now l.seen.next =
+    left_standing _ _ _ _ _ _ _ _ (l.invariant.left p.operands p.next p.count p.stands) (omega (arith, c.loop-test.true, p.count)) in
+    record {
+      ahead = omega (arith, l.invariant.ahead, seen_past a.a a.source a.s.now a.answers.now _ r.result r.ensures standing);
+      left = λ es next k o. left_more a.a a.source a.s.now a.answers.now es next l.seen l.counter (l.invariant.left es next k o) (omega (arith, c.loop-test.true, k))
+          r.result _ r.ensures c.bitand.ensures refl;
+    }
 
 pub eval_operands-returns : goal.eval_operands-returns
 eval_operands-returns t c =
-    let a = c.args in let l = c.loop-left in
-    λ es next k o. left_none a.a a.source a.s.now a.answers.now es next l.held l.place l.left (l.invariant.1 es next k o) c.loop-left-test.false
+    let a = c.args in let l = c.loop in
+    λ es next k o. left_none a.a a.source a.s.now a.answers.now es next l.seen l.counter (l.invariant.left es next k o) (omega (arith, c.loop-test.false, k))

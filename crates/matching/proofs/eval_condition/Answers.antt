@@ -1,19 +1,12 @@
 -- `matching::eval_condition` meets its contract. Assumes nothing.
-use Rattle.matching.proofs.Inside.{seen_most}
-use Rattle.matching.proofs.Conditions.{negated_sees, plain_sees}
+use Rattle.std.proofs.Common.{◌≡◌, ◌%◌, arith}
+use Rattle.model.specs.Matching.{value}
+use Rattle.matching.specs.Sight.{sight}
 use Rattle.matching.proofs.eval_condition.Goals as goal
 
-pub overflow_sub-negated : goal.overflow_sub-negated
-overflow_sub-negated c =
-    let a = c.args in
-    seen_most a.a a.source a.s.now a.answers.now _ c.eval_expression-r.result c.eval_expression-r.ensures c.requires
-
 pub returns-then-word-eq1 : goal.returns-then-word-eq1
-returns-then-word-eq1 c =
-    let a = c.args in
-    negated_sees a.a a.source a.s.now a.answers.now a.word c.eval_expression-r.result c.if-word-eq1.true c.eval_expression-r.ensures
+returns-then-word-eq1 c = λ e next h. let a = c.args in
+    rw c.if-word-eq1.true (c.not.ensures (λ y. value (sight a.a a.answers.now y) e) a.source (c.eval_expression-seen.ensures e next h).0)
 
-pub returns : goal.returns
-returns c =
-    let a = c.args in
-    plain_sees a.a a.source a.s.now a.answers.now a.word c.eval_expression-r.result c.if-word-eq1.false c.eval_expression-r.ensures
+pub returns-else-word-eq1 : goal.returns-else-word-eq1
+returns-else-word-eq1 c = λ e next h. let even : c.args.word % 2 ≡ 0 = omega arith in rw even (c.eval_expression-seen.ensures e next h).0

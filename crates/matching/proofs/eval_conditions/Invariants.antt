@@ -1,16 +1,13 @@
--- `matching::eval_conditions` meets its contract. The loop's invariant: whatever conditions are written, those so far are seen, and the rest are
--- written where reading goes on. Assumes nothing.
-use mathlib.Core.List.{List}
-use mathlib.Core.Path.{◌≡◌}
-use lib.ListN.{length}
+-- The loop's invariant: whatever conditions the words are, those so far are seen.
+use Rattle.std.proofs.Common.{List, take}
+use Rattle.model.specs.Matching.{value}
 use Rattle.model.specs.Unfolding.{Condition}
-use Rattle.matching.specs.Conditions.{Written}
-use Rattle.matching.proofs.Conditions.{Left}
+use Rattle.model.specs.Verdict.{conditions_value}
+use Rattle.matching.specs.Sight.{sight, Sees}
+use Rattle.matching.specs.Conditions.{WrittenAs}
 use Rattle.matching.proofs.eval_conditions.Given as goal
 
-abbrev pub invariant-loop-left : goal.invariant-loop-left
-invariant-loop-left l =
-    (cs : List Condition) → length cs ≡ l.count → Written l.s l.words l.from cs → Left l.a l.source l.s l.answers l.words cs l.held l.at l.left
-
-abbrev pub decreases-loop-left : goal.decreases-loop-left
-decreases-loop-left l = l.left
+abbrev pub invariant-loop-word : goal.invariant-loop-word
+invariant-loop-word l =
+    (cs : List Condition) → WrittenAs l.s l.conditions cs
+    → Sees (λ y. conditions_value (value (sight l.a l.answers y)) (take l.word-index cs)) l.source l.held

@@ -1,19 +1,12 @@
--- `plan::port_index` meets its contract. The loop's invariant: what is left to ask from port i on is the whole answer. Assumes nothing.
-use Prim.Native.Nat.{◌+◌, ◌-◌}
-use mathlib.Core.Path.{sym, ◌∙◌}
-use native.Mathlib.Omega.{arith}
-use native.Mathlib.Nat.{sub-zero}
-use Rattle.plan.proofs.Asking.{asked_none, asked_here, asked_later}
+-- `plan::port_index` meets its contract. Assumes nothing.
+use Rattle.std.proofs.Common.{rules, ◌∙◌, eqb, sym, tests, arith}
+use Rattle.std.proofs.lemmas.Iterator.{YieldsList-from_slice}
+use Rattle.std.proofs.lemmas.Iterator.Adapters.{position_from-zero}
+use Rattle.std.proofs.lemmas.Iterator.Search.{position_from_yields_List}
+use Rattle.plan.proofs.Asking.{asked_from}
 use Rattle.plan.proofs.port_index.Goals as goal
 
-pub loop-i-init : goal.loop-i-init
-loop-i-init c = (omega arith, rw sub-zero)
-
-pub returns-then-number-i : goal.returns-then-number-i
-returns-then-number-i c = sym (c.loop-i.invariant.1 ∙ asked_here _ _ _ _ (c.args.ports - (c.loop-i.i + 1)) (omega arith) c.if-number-i.true)
-
-pub loop-i-preserved : goal.loop-i-preserved
-loop-i-preserved c = (omega arith, c.loop-i.invariant.1 ∙ asked_later _ _ _ _ _ (omega arith) c.if-number-i.false)
-
 pub returns : goal.returns
-returns c = sym (c.loop-i.invariant.1 ∙ asked_none _ _ _ _ (omega arith))
+returns c =
+    position_from_yields_List (λ x. eqb x c.args.port) _ _ c.position.result c.position.ensures.ran (YieldsList-from_slice _ c.iter.ensures.rest) (λ x b q k. search (rules, tests))
+    ∙ position_from-zero (λ x. eqb x c.args.port) _ ∙ sym (asked_from c.args.plan.now.number c.args.port 0 c.args.plan.now.ports (omega arith))

@@ -1,41 +1,32 @@
 -- `plan::read_port` meets its contract: two fields, then the ranges. Assumes nothing.
-use mathlib.Core.Path.{◌≡◌, sym, ap, ◌∙◌}
-use native.Mathlib.Omega.{arith}
-use Rattle.model.specs.Limits.{port_highest, ranges_most}
-use Rattle.model.specs.Number.{numeral}
-use Rattle.numbers.specs.Told.{told}
-use Rattle.numbers.specs.Field.{field_at}
-use Rattle.numbers.proofs.Fields.{field_within}
+use Rattle.std.proofs.Common.{arith}
+use Rattle.std.proofs.lemmas.Result.{err_from_is_err_and}
+use Rattle.model.specs.Limits.{ranges_most}
+use Rattle.model.specs.Book.{within}
+use Rattle.plan.specs.Written.{standing}
+use Rattle.plan.proofs.Readings.{field_limits}
 use Rattle.plan.proofs.Ports.{number_bad, count_bad, one_bad, one_got}
 use Rattle.plan.proofs.read_port.Goals as goal
 
 pub read_ranges-requires : goal.read_ranges-requires
 read_ranges-requires c =
-    let count_is : field_at c.args.s.now c.in-Got.middle 0 ranges_most ≡ numeral c.in-Got-read_field.count c.in-Got-read_field.begin =
-    sym c.read_field-in-Got.ensures ∙ ap told c.in-Got-read_field.is in
-    (c.requires.0, omega (arith, c.requires.1, (field_within _ _ _ _ _ _ count_is).1))
+    let few = field_limits 0 ranges_most c.in_ok-count.count (within 0 ranges_most c.args.s.now (standing c.in_ok-number.number.next)) c.in_ok-count.ensures in
+    (c.requires.0, omega (arith, few.1, c.requires.1))
 
-pub returns-in-Refused : goal.returns-in-Refused
-returns-in-Refused c = number_bad _ _ _ _ _ _ _ (sym c.read_field.ensures ∙ ap told c.in-Refused.is)
+pub returns-in_err-number : goal.returns-in_err-number
+returns-in_err-number c =
+    let p = err_from_is_err_and c.from_residual.result c.from_residual.ensures.1 in
+    rw (p.1, p.2) (number_bad _ c.args.to c.args.contents.now c.args.contents.now _ _ _ c.in_err-number.ensures)
 
-pub returns-in-Refused-read_field : goal.returns-in-Refused-read_field
-returns-in-Refused-read_field c =
-    let number_is : field_at c.args.s.now c.args.at c.args.least port_highest ≡ numeral c.in-Got.number c.in-Got.middle =
-    sym c.read_field.ensures ∙ ap told c.in-Got.is in
-    count_bad _ _ _ _ _ _ _ _ number_is _ (sym c.read_field-in-Got.ensures ∙ ap told c.in-Refused-read_field.is)
+pub returns-in_err-count : goal.returns-in_err-count
+returns-in_err-count c =
+    let p = err_from_is_err_and c.from_residual-in_err-count.result c.from_residual-in_err-count.ensures.1 in
+    rw (p.1, p.2) (count_bad _ c.args.to c.args.contents.now c.args.contents.now _ _ _ c.in_ok-number.ensures _ c.in_err-count.ensures)
 
-pub returns-in-Bad : goal.returns-in-Bad
-returns-in-Bad c =
-    let number_is : field_at c.args.s.now c.args.at c.args.least port_highest ≡ numeral c.in-Got.number c.in-Got.middle =
-    sym c.read_field.ensures ∙ ap told c.in-Got.is in
-    let count_is : field_at c.args.s.now c.in-Got.middle 0 ranges_most ≡ numeral c.in-Got-read_field.count c.in-Got-read_field.begin =
-    sym c.read_field-in-Got.ensures ∙ ap told c.in-Got-read_field.is in
-    one_bad _ _ _ _ _ _ _ _ number_is _ _ count_is _ c.read_ranges.ensures _ c.in-Bad.is
+pub returns-in_err-next : goal.returns-in_err-next
+returns-in_err-next c =
+    let p = err_from_is_err_and c.from_residual-in_err-next.result c.from_residual-in_err-next.ensures.1 in
+    rw (p.1, p.2) (one_bad _ c.args.to c.args.contents.now c.read_ranges.new.contents _ _ _ c.in_ok-number.ensures _ c.in_ok-count.ensures _ c.in_err-next.ensures)
 
-pub returns-in-Next : goal.returns-in-Next
-returns-in-Next c =
-    let number_is : field_at c.args.s.now c.args.at c.args.least port_highest ≡ numeral c.in-Got.number c.in-Got.middle =
-    sym c.read_field.ensures ∙ ap told c.in-Got.is in
-    let count_is : field_at c.args.s.now c.in-Got.middle 0 ranges_most ≡ numeral c.in-Got-read_field.count c.in-Got-read_field.begin =
-    sym c.read_field-in-Got.ensures ∙ ap told c.in-Got-read_field.is in
-    one_got _ _ _ _ _ _ _ _ number_is _ _ count_is _ c.read_ranges.ensures _ c.in-Next.is
+pub returns : goal.returns
+returns c = one_got _ _ _ _ _ _ _ c.in_ok-number.ensures _ c.in_ok-count.ensures _ c.in_ok-next.ensures

@@ -1,43 +1,40 @@
 -- `plan::read_ranges` meets its contract. The loop's invariant: to write the ranges that are left is to write all. Assumes nothing.
-use Prim.Native.Nat.{◌<◌}
-use mathlib.Core.Path.{◌≡◌, sym, ap, ◌∙◌}
-use native.Mathlib.Omega.{arith}
-use lib.ListN.{length, length-set}
-use Rattle.model.specs.Limits.{greatest}
-use Rattle.model.specs.Number.{numeral}
-use Rattle.numbers.specs.Told.{told}
-use Rattle.numbers.specs.Field.{field_at}
+use Rattle.std.specs.Prelude.{Ok, Err}
+use Rattle.std.proofs.Common.{◌≡◌, suc, ◌+◌, ◌-◌, ◌<◌, length, arith}
+use Rattle.std.proofs.lemmas.Result.{err_from_is_err_and}
+use lib.ListN.{length-set}
 use Rattle.plan.proofs.Ranges.{ranges_none, ranges_low, ranges_high, ranges_more}
 use Rattle.plan.proofs.read_ranges.Goals as goal
 
-pub loop-left-init : goal.loop-left-init
-loop-left-init c = record { wide = c.requires.0; room = c.requires.1; rest = λ r e h. h }
+pub loop-i-init : goal.loop-i-init
+loop-i-init c = let e : c.args.to + c.args.count - c.args.to ≡ c.args.count = omega arith in record { sized = c.requires.0; rest = λ r k h. rw e at h }
 
-pub returns-in-Refused : goal.returns-in-Refused
-returns-in-Refused c =
-    c.loop-left.invariant.rest _ _ (ranges_low _ _ _ _ _ _ _ _ _ c.loop-left-test.true (sym c.read_field.ensures ∙ ap told c.in-Refused.is))
+pub returns-in_err-low : goal.returns-in_err-low
+returns-in_err-low c =
+    let more : c.args.to + c.args.count - c.loop-i.i ≡ suc (c.args.to + c.args.count - (c.loop-i.i + 1)) = omega arith in
+    let p = err_from_is_err_and c.from_residual.result c.from_residual.ensures.1 in
+    rw p.1 (c.loop-i.invariant.rest (Err p.0) c.loop-i.contents (rw p.2 (ranges_low _ c.loop-i.contents c.loop-i.i c.loop-i.contents _ _ more _ _ _ c.in_err-low.ensures)))
 
-pub returns-in-Refused-read_field : goal.returns-in-Refused-read_field
-returns-in-Refused-read_field c =
-    let low_is : field_at c.args.s.now c.loop-left.next c.loop-left.least greatest ≡ numeral c.in-Got.from c.in-Got.middle =
-    sym c.read_field.ensures ∙ ap told c.in-Got.is in
-    c.loop-left.invariant.rest _ _
-    (ranges_high _ _ _ _ _ _ _ _ _ low_is _ _ c.loop-left-test.true (sym c.read_field-in-Got.ensures ∙ ap told c.in-Refused-read_field.is))
+pub returns-in_err-high : goal.returns-in_err-high
+returns-in_err-high c =
+    let more : c.args.to + c.args.count - c.loop-i.i ≡ suc (c.args.to + c.args.count - (c.loop-i.i + 1)) = omega arith in
+    let p = err_from_is_err_and c.from_residual-in_err-high.result c.from_residual-in_err-high.ensures.1 in
+    rw p.1 (c.loop-i.invariant.rest (Err p.0) c.loop-i.contents (rw p.2
+    (ranges_high _ c.loop-i.contents c.loop-i.i c.loop-i.contents _ _ more _ _ _ c.in_ok-low.ensures _ (rw c.from.ensures at c.in_err-high.ensures))))
 
-pub loop-left-preserved : goal.loop-left-preserved
-loop-left-preserved c =
-    let low_is : field_at c.args.s.now c.loop-left.next c.loop-left.least greatest ≡ numeral c.in-Got.from c.in-Got.middle =
-    sym c.read_field.ensures ∙ ap told c.in-Got.is in
-    let i = c.loop-left.i in
-    let some = c.loop-left-test.true in
-    let in-low : i < length c.loop-left.low = omega (arith, c.loop-left.invariant.wide.low, c.loop-left.invariant.room, some) in
-    let in-high : i < length c.loop-left.high = omega (arith, c.loop-left.invariant.wide.high, c.loop-left.invariant.room, some) in
+pub loop-i-preserved : goal.loop-i-preserved
+loop-i-preserved c =
+    let more : c.args.to + c.args.count - c.loop-i.i ≡ suc (c.args.to + c.args.count - (c.loop-i.i + 1)) = omega arith in
+    let sized = c.loop-i.invariant.sized in
+    let in-low : c.loop-i.i < length c.loop-i.contents.low = omega (arith, sized.low) in
+    let in-high : c.loop-i.i < length c.loop-i.contents.high = omega (arith, sized.high) in
     record {
-      wide = record { low = simp length-set c.loop-left.invariant.wide.low; high = simp length-set c.loop-left.invariant.wide.high };
-      room = omega (arith, c.loop-left.invariant.room, some);
-      rest = λ r e h. c.loop-left.invariant.rest r e
-          (ranges_more _ _ _ _ _ _ _ _ _ low_is r _ _ _ some (sym c.read_field-in-Got.ensures ∙ ap told c.in-Got-read_field.is) in-low in-high h);
+      sized = record { number = sized.number; first = sized.first; low = simp length-set sized.low; high = simp length-set sized.high };
+      rest = λ r k h. c.loop-i.invariant.rest r k
+          (ranges_more _ _ _ _ _ _ more _ _ _ c.in_ok-low.ensures _ (rw c.from.ensures at c.in_ok-high.ensures) in-low in-high r (rw c.from-least.ensures at h));
     }
 
 pub returns : goal.returns
-returns c = c.loop-left.invariant.rest _ _ (ranges_none _ _ _ _ _ _ _ c.loop-left-test.false)
+returns c =
+    let none : c.args.to + c.args.count - c.loop-i.i ≡ 0 = omega arith in
+    c.loop-i.invariant.rest (Ok c.loop-i.next) c.loop-i.contents (ranges_none c.args.s.now c.loop-i.contents c.loop-i.i _ c.loop-i.least c.loop-i.next none)

@@ -1,10 +1,6 @@
 -- Each turn is one port, by the laws of PortLoop.
-use Prim.Native.Nat.{◌-◌}
 use Rattle.report.proofs.PortLoop.{Going}
 use Rattle.report.proofs.put_ports.Given as goal
 
 abbrev pub invariant-loop-i : goal.invariant-loop-i
 invariant-loop-i l = Going l.book l.plan l.initial.buf l.at l.buf l.to l.i
-
-abbrev pub decreases-loop-i : goal.decreases-loop-i
-decreases-loop-i l = l.ports - l.i

@@ -1,50 +1,62 @@
--- What was counted, with the rules from i on, comes to the need of c, up to the most.
+-- What was counted, with the rules from here on, comes to the need of c, up to the most.
 use Prim.Native.Nat.{suc, ◌+◌, ◌≤◌, ◌<◌}
 use native.Mathlib.Omega.{arith}
-use mathlib.Core.Path.{◌≡◌, ◌∙◌}
-use lib.ListN.{get_or}
-use Rattle.book.specs.Contents.{action_of}
+use lib.ListN.{length, get_or, take, drop}
+use mathlib.Core.Path.{◌≡◌, refl, sym, ap, ◌∙◌}
+use Rattle.std.proofs.lemmas.Grind.{common_steps}
+use Rattle.book.specs.Contents.{said, no_note, action_at, first_of, rules_in}
+use Rattle.std.proofs.Common.{rules}
+use Rattle.book.specs.declared.Action.TheVariants.{Return}
+use Rattle.calls.proofs.Rules.{part_action, part_calls}
 use Rattle.room.specs.declared.Need.{Need}
-use Rattle.room.specs.Counting.{held_after}
+use Rattle.room.specs.Counting.{put, held_after}
 use Rattle.room.specs.Capped.{kept}
-use Rattle.room.proofs.Numbers.{held_return, held_other}
+use Rattle.room.proofs.Actions.{held_return, held_other}
 use Rattle.room.proofs.Steps.{none_left, counted_rule}
 use Rattle.room.proofs.count_chain.Goals as goal
-use Rattle.room.proofs.count_chain.Goals.{then-does-eq-RETURN, else-does-eq-RETURN}
+use Rattle.room.proofs.count_chain.Goals.{then-eq, else-eq}
 
-pub loop-i-preserved : goal.loop-i-preserved
-loop-i-preserved c =
-    let s = c.args in
-    let l = c.loop-i in
-    let v = l.invariant in
-    let a = s.action.now in
-    let t = s.target.now in
-    let end = get_or s.first.now (s.c + 1) 0 in
-    let g = kept s.counts.now s.words.now in
-    let held = c.if-does-eq-RETURN.held in
-    let lt : l.i < end = omega arith in
-    let sum : Need = record { rules = l.all_rules; words = l.all_words } in
-    let after : Need = record { rules = c.up_to_most-all_rules.result; words = c.up_to_most-all_words.result } in
-    let next : (held ≡ held_after l.held (action_of (get_or a l.i 0) (get_or t l.i 0))) × (1 ≤ held) × (held ≤ suc (l.i + 1)) =
-    elim c.if-does-eq-RETURN.branch [
-      | then-does-eq-RETURN w ↦
-          (w.held-is ∙ held_return (get_or t l.i 0) l.held (get_or a l.i 0) w.if-does-eq-RETURN.true, omega (arith, w.held-is), omega (arith, w.held-is))
-      | else-does-eq-RETURN w ↦
-          (w.held-is ∙ held_other (get_or t l.i 0) l.held (get_or a l.i 0) w.if-does-eq-RETURN.false, omega (arith, w.held-is), omega (arith, w.held-is))
-    ] in
-    let r = c.up_to_most-all_rules.ensures in
-    let w = c.up_to_most-all_words.ensures in (
-      omega (arith, v.0),
-      omega arith,
+pub put_by-own-requires : goal.put_by-own-requires
+put_by-own-requires c = λ d q.
+    let k = c.args.contents.now in
+    let all : length (take (rules_in k c.args.c) (drop (first_of k c.args.c) k.noted)) ≡ rules_in k c.args.c = grind (arith, common_steps) in
+    omega (arith, part_calls k c.requires.0 c.args.c c.loop-rule.rule-index c.requires.1 _ refl (omega arith) d q, c.requires.0.few)
+
+pub loop-rule-preserved : goal.loop-rule-preserved
+loop-rule-preserved c =
+    let k = c.args.contents.now in
+    let l = c.loop-rule in
+    let held = c.if-eq.held in
+    let i = first_of k c.args.c + l.rule-index in
+    let all : length (take (rules_in k c.args.c) (drop (first_of k c.args.c) k.noted)) ≡ rules_in k c.args.c = grind (arith, common_steps) in
+    let lt : l.rule-index < rules_in k c.args.c = omega arith in
+    let does = (get_or (take (rules_in k c.args.c) (drop (first_of k c.args.c) k.noted)) l.rule-index no_note).action in
+    let here = part_action k c.args.c l.rule-index _ refl lt in
+    let after : Need = record { rules = c.min.result; words = c.min-in-loop-rule.result } in
+    let next : (held ≡ held_after l.held (action_at k i)) × (1 ≤ held) × (held ≤ suc (l.rule-index + 1)) =
+    elim c.if-eq.branch [
+      | then-eq w ↦
+          let is : does ≡ Return = search rules in
+          (w.held-is ∙ held_return l.held (action_at k i) (sym here ∙ ap said is), omega (arith, w.held-is), omega (arith, w.held-is))
+      | else-eq w ↦
+          let not : does ≡ Return → ⊥ = search rules in
+          (w.held-is ∙ held_other l.held does not ∙ ap (held_after l.held) here, omega (arith, w.held-is), omega (arith, w.held-is))
+    ] in (
       next.1,
       next.2,
-      record { rules = omega (arith, r); words = omega (arith, w) },
-      λ f k. counted_rule a t f end l.i l.held lt v.2 g sum c.put_by-own.result after c.put_by-own.ensures (λ q. k l.i v.0 lt q) r w held next.0 ∙ v.5 f k,
+      record { rules = omega (arith, c.min.ensures); words = omega (arith, c.min-in-loop-rule.ensures) },
+      λ f known.
+          counted_rule k f (first_of k (c.args.c + 1)) i _ l.held (omega arith) (omega arith) l.invariant.0 (kept c.args.needs.now) l.need c.put_by-own.result after
+          (c.put_by-own.ensures ∙ ap (put (kept c.args.needs.now)) here) (λ d q. known i d (record { from = omega arith; to = omega arith; calls = q }))
+          c.min.ensures c.min-in-loop-rule.ensures held next.0
+          ∙ l.invariant.3 f known,
     )
 
 pub returns : goal.returns
 returns c =
-    let s = c.args in
-    let l = c.loop-i in
-    let sum : Need = record { rules = l.all_rules; words = l.all_words } in
-    (l.invariant.4, λ f k. none_left s.action.now s.target.now f (get_or s.first.now (s.c + 1) 0) l.held l.i (omega arith) sum l.invariant.4 ∙ l.invariant.5 f k)
+    let k = c.args.contents.now in
+    let l = c.loop-rule in
+    let all : length (take (rules_in k c.args.c) (drop (first_of k c.args.c) k.noted)) ≡ rules_in k c.args.c = grind (arith, common_steps) in (
+      l.invariant.2,
+      λ f known. none_left k f (first_of k (c.args.c + 1)) l.held (first_of k c.args.c + l.rule-index) (omega arith) l.need l.invariant.2 ∙ l.invariant.3 f known,
+    )

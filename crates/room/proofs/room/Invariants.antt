@@ -1,5 +1,5 @@
 -- The ranks below the level have their needs; every rank is below the number of chains, so the entry has its own.
-use Prim.Native.Nat.{ℕ, ◌≤◌, ◌-◌}
+use Prim.Native.Nat.{ℕ}
 use Rattle.calls.specs.Weights.{rank_in}
 use Rattle.room.specs.declared.Need.{Need}
 use Rattle.room.specs.Capped.{kept, Kept, Counting, Upto}
@@ -7,8 +7,4 @@ use Rattle.room.proofs.room.Given as goal
 
 abbrev pub invariant-loop-level : goal.invariant-loop-level
 invariant-loop-level l =
-    (l.level ≤ l.chains) × Kept l.counts l.words
-    × ((f : ℕ → Need) → Counting l.first l.action l.target l.chains (rank_in l.ranks) f → Upto l.chains (rank_in l.ranks) f l.level (kept l.counts l.words))
-
-abbrev pub decreases-loop-level : goal.decreases-loop-level
-decreases-loop-level l = l.chains - l.level
+    Kept l.needs × ((f : ℕ → Need) → Counting l.contents (rank_in l.ranks) f → Upto l.contents.chains (rank_in l.ranks) f l.level (kept l.needs))

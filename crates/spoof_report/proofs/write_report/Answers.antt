@@ -3,13 +3,13 @@ use Rattle.std.proofs.Common.{◌≤◌, length, sym}
 use lib.Seq.{length-take-le}
 use Rattle.report.proofs.Answers.{bytes_given}
 use Rattle.spoof_report.proofs.write_report.Goals as goal
-use Rattle.spoof_report.proofs.write_report.Goals.{In-Bytes}
+use Rattle.spoof_report.proofs.write_report.Goals.{In-Ok}
 
-given : (c : In-Bytes) → c.in-Bytes.n ≤ length c.report.new.text
-given c = bytes_given _ _ _ _ _ c.report.ensures.answer c.report.ensures.text c.in-Bytes.is
+given : (c : In-Ok) → c.in-Ok.n ≤ length c.report.new.text
+given c = bytes_given _ _ _ _ _ c.report.ensures.answer c.report.ensures.text c.in-Ok.is
 
 pub slice_bounds-text-end : goal.slice_bounds-text-end
-slice_bounds-text-end c = given (goal.at.slice_bounds-text-end c).In-Bytes
+slice_bounds-text-end c = given (goal.at.slice_bounds-text-end c).In-Ok
 
 pub slice_bounds-write_all-end : goal.slice_bounds-write_all-end
-slice_bounds-write_all-end c = sym (length-take-le _ _ (given (goal.at.slice_bounds-write_all-end c).In-Bytes))
+slice_bounds-write_all-end c = sym (length-take-le _ _ (given (goal.at.slice_bounds-write_all-end c).In-Ok))

@@ -1,79 +1,137 @@
--- `suspects::gaps` meets its contract. The invariant: of whatever rising ranges stand there, the complement below `next` is held, and the ranges
--- from `at` on lie ahead. Assumes nothing.
-use Prim.Native.Nat.{ℕ, ◌<◌}
-use mathlib.Core.List.{List}
-use mathlib.Core.Path.{◌≡◌, refl}
-use native.Mathlib.Omega.{arith}
-use lib.ListN.{length, get_or}
+-- `suspects::gaps` meets its contract. The invariant: of whatever rising ranges these are, the complement below `next` is held, and the ranges
+-- that are left lie ahead. Assumes nothing.
+use Rattle.std.proofs.Common.{◌≡◌, ℕ, ◌+◌, ◌-◌, ◌≤◌, ◌<◌, min, List, ⊎_elim, sym, subst, arith, get_or, length, length-append}
+use Rattle.std.proofs.Common.{Ok, Err, [], ◌∷◌, ◌∙◌}
+use Rattle.std.proofs.lemmas.Result.{err_from_is_err_and}
+use Rattle.std.proofs.lemmas.Slice.Zip.{zip_turn, zip_end}
 use Rattle.model.specs.Limits.{greatest, spans_most}
-use Rattle.model.specs.Spans.{Spans, Rising}
-use Rattle.suspects.specs.Slots.{Listed, Ranges}
-use Rattle.suspects.specs.Build.{Filled}
-use Rattle.suspects.proofs.Ahead as ahead
-use Rattle.suspects.proofs.Between.{Gapped, gapped_all, gap_next, gap_full, gap_end}
+use Rattle.model.specs.Spans.{Spans, complement}
+use Rattle.suspects.specs.declared.Full.{Full}
+use Rattle.suspects.specs.declared.Suspects.{Suspects}
+use Rattle.suspects.specs.Slots.{Ranges, RangesAs}
+use Rattle.suspects.specs.Build.{Filled, Fills, Gaps, HeldIn, NoRoom}
+use Rattle.suspects.proofs.Ahead.{room_high}
+use Rattle.suspects.proofs.Between.{Gapped, gapped_all, gap_filled, gap_next, gap_end, made_of, made_full, complement_rises, beyond}
+use Rattle.suspects.proofs.Chains.{lt_or_le}
 use Rattle.suspects.proofs.gaps.Goals as goal
 
--- what the loop keeps of the ranges from `from` on, said of those that the contract says stand there
-module _ (low high : List ℕ) (from count next at left n : ℕ) (lower upper : List ℕ) (p : Ranges low high from count)
-    (keeps : (ranges : Spans) (top : ℕ) → Rising top 0 ranges → length ranges ≡ count → Listed low high from ranges → Gapped spans_most greatest ranges top low high next at left n lower upper) where
-  gapped : Gapped spans_most greatest p.spans p.top low high next at left n lower upper
-  gapped = keeps p.spans p.top p.rising p.counted p.listed
+-- what the loop keeps, once k of the ranges are passed
+abbrev Kept : List ℕ → List ℕ → ℕ → ℕ → Suspects → Type 0
+Kept low high next k set = (ranges : Spans) (top : ℕ) → RangesAs low high ranges top
+    → Gapped spans_most greatest ranges top low high next k (length low - k) set.count set.low set.high
 
-  filled : Filled spans_most n lower upper
-  filled = record { spans = gapped.held.spans; slots = gapped.held.slots }
+module _ (low high : List ℕ) (p : Ranges low high) (next k : ℕ) (set : Suspects) (keeps : Kept low high next k set) where
+  filled : Filled set
+  filled = let g = keeps p.spans p.top p.are in record { spans = g.held.spans; slots = g.held.slots }
 
-  room_low : 0 < left → at < length low
-  room_low = ahead.room_low _ _ _ _ _ _ _ gapped.onward
+  all_passed : k ≡ min (length low) (length high) → length low ≤ k
+  all_passed e = ⊎_elim
+      (λ h. let r : k < length high = room_high _ _ _ _ _ _ _ (keeps p.spans p.top p.are).onward (omega arith) in absurd (omega arith))
+      (λ h. h) (lt_or_le k (length low))
 
-  room_high : 0 < left → at < length high
-  room_high = ahead.room_high _ _ _ _ _ _ _ gapped.onward
+  -- at a range
+  module _ (some : k < length low) (from to : ℕ) (from_is : from ≡ get_or low k 0) (to_is : to ≡ get_or high k 0) (from-fits : from ≤ greatest) (after : Suspects) where
+    full_here : (e d : Full) → Fills {A = Unit {0}} next from set (Err e) after → set.count ≤ k → Gaps low high (Err d)
+    full_here e d f h = record {
+      few = omega (arith, f.adds.0);
+      made = λ ranges top r. made_full spans_most (complement greatest ranges) from greatest (complement_rises spans_most greatest ranges top low high r.rising)
+          (gap_filled spans_most greatest ranges top low high r.rising next k (length low - k) set.count set.low set.high (keeps ranges top r) (omega arith)
+          from to from_is to_is from-fits (λ P. NoRoom spans_most P from) f.grown);
+    }
 
-pub loop-left-init : goal.loop-left-init
-loop-left-init c = let a = c.args in
-    (omega arith, omega arith, λ ranges top r k l. gapped_all spans_most greatest ranges top a.low.now a.high.now a.from a.count 0 a.lower.now a.upper.now r k l c.requires.1)
+    kept : (u : Unit {0}) → Fills {A = Unit {0}} next from set (Ok u) after → to ≤ greatest → (m : ℕ) → m ≡ k + 1 → Kept low high (to + 1) m after
+    kept u f h m e ranges top r =
+        let left : length low - k - 1 ≡ length low - m = omega arith in
+        let g = gap_filled spans_most greatest ranges top low high r.rising next k (length low - k) set.count set.low set.high (keeps ranges top r) (omega arith)
+        from to from_is to_is from-fits (λ P. HeldIn P from after) f.grown in
+        subst (λ at. Gapped spans_most greatest ranges top low high (to + 1) at (length low - m) after.count after.low after.high) (sym e)
+        (subst (λ n. Gapped spans_most greatest ranges top low high (to + 1) (k + 1) n after.count after.low after.high) left
+        (gap_next spans_most greatest ranges top low high r.rising next k (length low - k) set.count set.low set.high (keeps ranges top r) (omega arith)
+        from to from_is to_is from-fits h after.count after.low after.high g))
 
-pub offset_bounds-low-at : goal.offset_bounds-low-at
-offset_bounds-low-at c = let h : c.loop-left.at < length c.args.low.now = room_low _ _ _ _ _ _ _ _ _ _ c.requires.0 c.loop-left.invariant.2 c.loop-left-test.true in omega (arith, c.well_formed.0)
+  -- behind the last
+  module _ (none : length low ≤ k) (h : next ≤ greatest + 1) (after : Suspects) where
+    full_end : (e d : Full) → Fills {A = Unit {0}} next (greatest + 1) set (Err e) after → set.count ≤ length low → Gaps low high (Err d)
+    full_end e d f n = record {
+      few = omega (arith, f.adds.0);
+      made = λ ranges top r. made_full spans_most (complement greatest ranges) (greatest + 1) greatest
+          (complement_rises spans_most greatest ranges top low high r.rising)
+          (gap_end spans_most greatest ranges top low high r.rising next k (length low - k) set.count set.low set.high (keeps ranges top r) (omega arith) h
+          (λ P. NoRoom spans_most P (greatest + 1)) f.grown);
+    }
 
-pub bounds-low-at : goal.bounds-low-at
-bounds-low-at c = room_low _ _ _ _ _ _ _ _ _ _ c.requires.0 c.loop-left.invariant.2 c.loop-left-test.true
+    made_end : (u : Unit {0}) → Fills {A = Unit {0}} next (greatest + 1) set (Ok u) after → Gaps low high (Ok after)
+    made_end u f = record {
+      few = tt;
+      made = λ ranges top r. made_of spans_most (complement greatest ranges) (greatest + 1) greatest after.count after.low after.high
+          (complement_rises spans_most greatest ranges top low high r.rising) (beyond spans_most greatest ranges top low high r.rising)
+          (gap_end spans_most greatest ranges top low high r.rising next k (length low - k) set.count set.low set.high (keeps ranges top r) (omega arith) h
+          (λ P. HeldIn P (greatest + 1) after) f.grown);
+    }
 
-pub offset_bounds-high-at : goal.offset_bounds-high-at
-offset_bounds-high-at c = let h : c.loop-left.at < length c.args.high.now = room_high _ _ _ _ _ _ _ _ _ _ c.requires.0 c.loop-left.invariant.2 c.loop-left-test.true in omega (arith, c.well_formed.1.0)
-
-pub bounds-high-at : goal.bounds-high-at
-bounds-high-at c = room_high _ _ _ _ _ _ _ _ _ _ c.requires.0 c.loop-left.invariant.2 c.loop-left-test.true
-
-pub fill-n-requires : goal.fill-n-requires
-fill-n-requires c = (filled _ _ _ _ _ _ _ _ _ _ c.requires.0 c.loop-left.invariant.2, omega (arith, c.wide.ensures))
-
-pub returns-then-n-gt-MAX : goal.returns-then-n-gt-MAX
-returns-then-n-gt-MAX c = let l = c.loop-left in let a = c.args in record {
-  few = omega (arith, c.fill-n.ensures.few, l.invariant.1, c.loop-left-test.true);
-  made = λ ranges top r k h. gap_full spans_most greatest ranges top a.low.now a.high.now r l.next l.at l.left l.n l.lower l.upper (l.invariant.2 ranges top r k h) c.loop-left-test.true
-      c.wide.result (get_or a.high.now l.at 0) c.fill-n.result c.fill-n.new.low c.fill-n.new.high c.wide.ensures.0 refl (omega (arith, c.wide.ensures)) c.fill-n.ensures.grown c.if-n-gt-MAX.true;
+pub loop-from-init : goal.loop-from-init
+loop-from-init c = let s = c.empty-set in record {
+  fits = omega arith;
+  few = omega (arith, s.ensures.count);
+  gapped = λ ranges top r. gapped_all spans_most greatest ranges top c.args.low.now c.args.high.now 0 (length c.args.low.now - 0)
+      s.result.count s.result.low s.result.high
+      r.rising (omega (arith, r.counted)) r.listed s.ensures;
 }
 
-pub overflow_add-at : goal.overflow_add-at
-overflow_add-at c =
-    let h : c.loop-left.at < length c.args.low.now = room_low _ _ _ _ _ _ _ _ _ _ c.requires.0 c.loop-left.invariant.2 c.loop-left-test.true in
-    omega (arith, c.well_formed.0)
+pub fill-requires-clause-filled : goal.fill-requires-clause-filled
+fill-requires-clause-filled c = let l = c.loop-from in filled c.args.low.now c.args.high.now c.requires l.next (length l.yielded) l.set l.invariant.gapped
 
-pub loop-left-preserved : goal.loop-left-preserved
-loop-left-preserved c = let l = c.loop-left in let a = c.args in (
-  omega (arith, c.wide-next.ensures),
-  omega (arith, c.fill-n.ensures.few, l.invariant.1, c.loop-left-test.true),
-  λ ranges top r k h. gap_next spans_most greatest ranges top a.low.now a.high.now r l.next l.at l.left l.n l.lower l.upper (l.invariant.2 ranges top r k h) c.loop-left-test.true
-      c.wide.result c.wide-next.result c.fill-n.result c.fill-n.new.low c.fill-n.new.high c.wide.ensures.0 c.wide-next.ensures.0 (omega (arith, c.wide.ensures)) c.fill-n.ensures.grown
-      (omega (arith, c.wide-next.ensures)) c.if-n-gt-MAX.false,
-)
+pub returns-in_err-fill : goal.returns-in_err-fill
+returns-in_err-fill c =
+    let a = c.args in
+    let l = c.loop-from in
+    let t = zip_turn a.low.now a.high.now l.yielded c.into_iter-from-iterator.result l.from-iterator c.next.new.self c.next.result (cc) (cc)
+    l.yielded_by _ c.in-Some.is c.next.ensures.steps in
+    let fits : c.from.result ≤ greatest = omega (arith, c.from.ensures, t.2 0, c.type_inv.low (length l.yielded)) in
+    let p = err_from_is_err_and c.from_residual.result c.from_residual.ensures.1 in
+    rw p.1 (full_here a.low.now a.high.now c.requires l.next (length l.yielded) l.set l.invariant.gapped t.0
+    c.from.result c.in-Some.field-0-1.now (c.from.ensures ∙ t.2 0) (t.3 0) fits
+    c.fill.new.self _ p.0 c.in_err-fill.ensures l.invariant.few)
 
-pub fill-requires : goal.fill-requires
-fill-requires c = (filled _ _ _ _ _ _ _ _ _ _ c.requires.0 c.loop-left.invariant.2, omega arith)
+pub loop-from-preserved : goal.loop-from-preserved
+loop-from-preserved c =
+    let a = c.args in
+    let l = c.loop-from in
+    let t = zip_turn a.low.now a.high.now l.yielded c.into_iter-from-iterator.result l.from-iterator c.next.new.self c.next.result (cc) (cc)
+    l.yielded_by _ c.in-Some.is c.next.ensures.steps in
+    let fits : c.from.result ≤ greatest = omega (arith, c.from.ensures, t.2 0, c.type_inv.low (length l.yielded)) in
+    let high-fits : c.from-next.result ≤ greatest = omega (arith, c.from-next.ensures, t.3 0, c.type_inv.high (length l.yielded)) in
+    let w = c.in_ok-fill.ensures in
+    let more = length-append l.yielded ((c.in-Some.field-0-0, c.in-Some.field-0-1) ∷ []) in
+    record {
+      fits = omega arith;
+      few = omega (arith, more, w.adds, l.invariant.few);
+      gapped = kept a.low.now a.high.now c.requires l.next (length l.yielded) l.set l.invariant.gapped t.0
+          c.from.result c.from-next.result (c.from.ensures ∙ t.2 0) (c.from-next.ensures ∙ t.3 0)
+          fits c.fill.new.self _ w high-fits _ more;
+    }
+
+pub fill-requires-2-clause-filled : goal.fill-requires-2-clause-filled
+fill-requires-2-clause-filled c = let l = c.loop-from in filled c.args.low.now c.args.high.now c.requires l.next (length l.yielded) l.set l.invariant.gapped
+
+pub returns-in_err-fill-2 : goal.returns-in_err-fill-2
+returns-in_err-fill-2 c =
+    let a = c.args in
+    let l = c.loop-from in
+    let e = zip_end a.low.now a.high.now l.yielded c.into_iter-from-iterator.result l.from-iterator c.next.new.self c.next.result (cc) (cc)
+    l.yielded_by c.in-None.is c.next.ensures.steps in
+    let all = all_passed a.low.now a.high.now c.requires l.next (length l.yielded) l.set l.invariant.gapped e in
+    let p = err_from_is_err_and c.from_residual-in_err-fill-2.result c.from_residual-in_err-fill-2.ensures.1 in
+    rw p.1 (full_end a.low.now a.high.now c.requires l.next (length l.yielded) l.set l.invariant.gapped all l.invariant.fits
+    c.fill-2.new.self _ p.0 c.in_err-fill-2.ensures
+    (omega (arith, l.invariant.few, e)))
 
 pub returns : goal.returns
-returns c = let l = c.loop-left in let a = c.args in record {
-  few = omega (arith, c.fill.ensures.few, l.invariant.1, c.loop-left-test.false);
-  made = λ ranges top r k h. gap_end spans_most greatest ranges top a.low.now a.high.now r l.next l.at l.left l.n l.lower l.upper (l.invariant.2 ranges top r k h) c.loop-left-test.false l.invariant.0
-      c.fill.result c.fill.new.low c.fill.new.high c.fill.ensures.grown;
-}
+returns c =
+    let a = c.args in
+    let l = c.loop-from in
+    let e = zip_end a.low.now a.high.now l.yielded c.into_iter-from-iterator.result l.from-iterator c.next.new.self c.next.result (cc) (cc)
+    l.yielded_by c.in-None.is c.next.ensures.steps in
+    let all = all_passed a.low.now a.high.now c.requires l.next (length l.yielded) l.set l.invariant.gapped e in
+    made_end a.low.now a.high.now c.requires l.next (length l.yielded) l.set l.invariant.gapped all l.invariant.fits
+    c.fill-2.new.self _ c.in_ok-fill-2.ensures

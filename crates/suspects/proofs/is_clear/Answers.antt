@@ -1,17 +1,11 @@
--- `suspects::is_clear` meets its contract. The invariant: what is left of the test decides it. Assumes nothing.
-use mathlib.Core.Path.{refl, sym}
-use native.Mathlib.Omega.{arith}
-use Rattle.suspects.proofs.InWriting.{zeros_not, zeros_on, zeros_end}
+-- `suspects::is_clear` meets its contract. Assumes nothing.
+use Rattle.std.proofs.Common.{◌∙◌, nat_eq, rules, tests}
+use Rattle.std.proofs.lemmas.Iterator.{YieldsList-from_slice}
+use Rattle.std.proofs.lemmas.Iterator.Search.{all_from_yields_List}
+use Rattle.suspects.proofs.InWriting.{zeros_all}
 use Rattle.suspects.proofs.is_clear.Goals as goal
 
-pub loop-i-init : goal.loop-i-init
-loop-i-init c = (omega arith, omega arith, refl)
-
-pub returns-then-slots-i-ne0 : goal.returns-then-slots-i-ne0
-returns-then-slots-i-ne0 c = sym (zeros_not c.args.slots.now c.args.n c.loop-i.i c.loop-i.invariant.2 (omega arith) c.if-slots-i-ne0.true)
-
-pub loop-i-preserved : goal.loop-i-preserved
-loop-i-preserved c = (omega arith, omega arith, zeros_on c.args.slots.now c.args.n c.loop-i.i c.loop-i.invariant.2 (omega arith) c.if-slots-i-ne0.false)
-
 pub returns : goal.returns
-returns c = sym (zeros_end c.args.slots.now c.args.n c.loop-i.i c.loop-i.invariant.2 (omega arith))
+returns c =
+    all_from_yields_List (λ x. nat_eq x 0) _ _ _ c.all.ensures.ran (YieldsList-from_slice c.args.slots.now (cc)) (λ x b q k. search (rules, tests))
+    ∙ zeros_all c.args.slots.now

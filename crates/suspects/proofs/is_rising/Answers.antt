@@ -1,38 +1,34 @@
 -- `suspects::is_rising` meets its contract. The invariant: what is left of the test decides it. Assumes nothing.
-use Prim.Native.Nat.{◌+◌}
-use mathlib.Core.Path.{refl, sym, ◌∙◌, ap}
-use native.Mathlib.Omega.{arith}
+use Rattle.std.proofs.Common.{◌+◌, ◌∷◌, [], inl, inr, ⊎_elim, sym, ◌∙◌, ap₂, arith, length, length-append}
+use Rattle.std.proofs.lemmas.Slice.Zip.{zip_turn, zip_end}
 use Rattle.model.specs.Slices.{rising}
-use Rattle.suspects.proofs.InWriting.{from, rising_low, rising_back, rising_on, rising_end}
+use Rattle.suspects.proofs.InWriting.{from, not_rising_here, rising_on, rising_end}
 use Rattle.suspects.proofs.is_rising.Goals as goal
 
-pub loop-i-init : goal.loop-i-init
-loop-i-init c = (omega arith, omega arith, omega arith, omega arith, refl)
+pub returns-then-from-least : goal.returns-then-from-least
+returns-then-from-least c =
+    let a = c.args in
+    let l = c.loop-from in
+    let t = zip_turn a.low.now a.high.now l.yielded c.into_iter-from-iterator.result l.from-iterator c.next.new.self c.next.result (cc) (cc)
+    l.yielded_by _ c.in-Some.is c.next.ensures.steps in
+    sym (not_rising_here a.low.now a.high.now (length l.yielded) l.least l.invariant t.0 t.1 c.in-Some.field-0-0.now c.in-Some.field-0-1.now (t.2 0) (t.3 0)
+    (⊎_elim (λ h. inl (omega (arith, c.from.ensures))) (λ h. inr h.1) c.then-from-least.either))
 
-pub wide-requires : goal.wide-requires
-wide-requires c = tt
-
-pub returns-then-wide-least : goal.returns-then-wide-least
-returns-then-wide-least c = let a = c.args in
-    sym (rising_low a.low.now a.high.now a.n c.loop-i.i c.loop-i.least (omega arith) (omega arith) c.loop-i.invariant.4 (omega arith) (omega (arith, c.wide.ensures.0, c.if-wide-least.true)))
-
-pub returns-then-h-l : goal.returns-then-h-l
-returns-then-h-l c = let a = c.args in
-    sym (rising_back a.low.now a.high.now a.n c.loop-i.i c.loop-i.least (omega arith) (omega arith) c.loop-i.invariant.4 (omega arith) (omega (arith, c.if-h-l.true)))
-
-pub wide-least-requires : goal.wide-least-requires
-wide-least-requires c = tt
-
-pub loop-i-preserved : goal.loop-i-preserved
-loop-i-preserved c = let a = c.args in (
-  omega arith,
-  omega arith,
-  omega arith,
-  omega arith,
-  rising_on a.low.now a.high.now a.n c.loop-i.i c.loop-i.least (omega arith) (omega arith) c.loop-i.invariant.4 (omega arith) (omega (arith, c.wide.ensures.0, c.if-wide-least.false)) c.if-h-l.false
-      ∙ ap (λ e. rising (e + 2) (from a.n a.low.now a.high.now (c.loop-i.i + 1))) (sym c.wide-least.ensures.0),
-)
+pub loop-from-preserved : goal.loop-from-preserved
+loop-from-preserved c =
+    let a = c.args in
+    let l = c.loop-from in
+    let t = zip_turn a.low.now a.high.now l.yielded c.into_iter-from-iterator.result l.from-iterator c.next.new.self c.next.result (cc) (cc)
+    l.yielded_by _ c.in-Some.is c.next.ensures.steps in
+    rising_on a.low.now a.high.now (length l.yielded) l.least l.invariant t.0 t.1 c.in-Some.field-0-0.now c.in-Some.field-0-1.now (t.2 0) (t.3 0)
+    (omega (arith, c.from.ensures)) c.if-to-from.false
+    ∙ ap₂ (λ h k. rising (h + 2) (from a.low.now a.high.now k)) (sym c.from-least.ensures)
+    (sym (length-append l.yielded ((c.in-Some.field-0-0, c.in-Some.field-0-1) ∷ [])))
 
 pub returns : goal.returns
-returns c = let a = c.args in
-    sym (rising_end a.low.now a.high.now a.n c.loop-i.i c.loop-i.least (omega arith) (omega arith) c.loop-i.invariant.4 c.loop-i-test.false)
+returns c =
+    let a = c.args in
+    let l = c.loop-from in
+    sym (rising_end a.low.now a.high.now (length l.yielded) l.least l.invariant
+    (zip_end a.low.now a.high.now l.yielded c.into_iter-from-iterator.result l.from-iterator c.next.new.self c.next.result (cc) (cc)
+    l.yielded_by c.in-None.is c.next.ensures.steps))

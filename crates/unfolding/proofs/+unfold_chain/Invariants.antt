@@ -9,8 +9,4 @@ decreases-unfold_chain l = l.depth
 
 abbrev pub invariant-loop-i : goal.invariant-loop-i
 invariant-loop-i l =
-    Going l.action l.target l.expression (chain_words l.first l.action l.target l.expression (l.depth - 1))
-    l.initial.i l.end l.n l.at l.initial.ctx l.initial.words l.i l.m l.to l.ctx l.words
-
-abbrev pub decreases-loop-i : goal.decreases-loop-i
-decreases-loop-i l = l.end - l.i
+    Going l.contents (chain_words l.contents (l.depth - 1)) l.first l.end l.n l.at l.initial.ctx l.initial.words l.i l.m l.to l.ctx l.words

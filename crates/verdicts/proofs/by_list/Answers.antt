@@ -1,26 +1,41 @@
 -- `verdicts::by_list` meets its contract: the list, and then its verdict. Assumes nothing.
-use Rattle.verdicts.proofs.Laws.{opened_as, can_list, can_judge, judged_small, decides_short, decides_list}
+use Rattle.std.proofs.Common.{sym}
+use Rattle.std.proofs.lemmas.List.{length-take-le}
+use Rattle.std.proofs.lemmas.Result.{err_from_is_err_and}
+use Rattle.listing.proofs.Laws.{listed_ok, listed_err}
+use Rattle.verdicts.proofs.Laws.{can_list, listed_room, can_judge, judged_small, decides_list, decides_short}
 use Rattle.verdicts.proofs.by_list.Goals as goal
 
-pub list_book-listed-requires : goal.list_book-listed-requires
-list_book-listed-requires c = can_list c.requires
+pub list_book-requires : goal.list_book-requires
+list_book-requires c = can_list c.requires
 
-pub list_verdict-value-requires : goal.list_verdict-value-requires
-list_verdict-value-requires c =
-    let o = c.requires.opened in
-    can_judge o.book _ _ c.args.exact c.args.upper c.args.answers.now c.args.p _ o.read _ (c.list_book-listed.ensures _ o.book o.read o.contents) _ _ c.in-Counts.is
+pub returns-in_err-need : goal.returns-in_err-need
+returns-in_err-need c = λ b e.
+    let a = c.args in
+    let p = err_from_is_err_and c.from_residual.result c.from_residual.ensures.1 in
+    rw (p.1, p.2)
+    (decides_short b _ _ _ (listed_err b _ _ _ (c.list_book.ensures _ b e c.requires) _ c.in_err-need.was) a.told a.tactic a.answers.now a.p)
+
+pub slice_bounds-list_verdict-end : goal.slice_bounds-list_verdict-end
+slice_bounds-list_verdict-end c =
+    let o = c.requires in listed_room (listed_ok o.book _ _ _ (c.list_book.ensures _ o.book o.read o) _ c.in_ok-need.was)
+
+pub slice_bounds-list_verdict-end-2 : goal.slice_bounds-list_verdict-end-2
+slice_bounds-list_verdict-end-2 c =
+    let o = c.requires in sym (length-take-le _ _ (listed_room (listed_ok o.book _ _ _ (c.list_book.ensures _ o.book o.read o) _ c.in_ok-need.was)))
+
+pub list_verdict-action-requires : goal.list_verdict-action-requires
+list_verdict-action-requires c =
+    let o = c.requires in can_judge (listed_ok o.book _ _ _ (c.list_book.ensures _ o.book o.read o) _ c.in_ok-need.was) _ o.read
 
 pub named-requires : goal.named-requires
 named-requires c =
-    let o = c.requires.opened in
-    judged_small o.book _ _ c.args.exact c.args.upper c.args.answers.now c.args.p _ o.read _ (c.list_book-listed.ensures _ o.book o.read o.contents) _ _ c.in-Counts.is
-    _ c.list_verdict-value.ensures
+    let a = c.args in let o = c.requires in
+    judged_small (listed_ok o.book _ _ _ (c.list_book.ensures _ o.book o.read o) _ c.in_ok-need.was) _ o.read a.told a.tactic a.answers.now a.p
+    _ c.list_verdict-action.ensures
 
-pub returns-in-Refused : goal.returns-in-Refused
-returns-in-Refused c = λ b e.
-    decides_short b _ _ c.args.exact c.args.upper c.args.answers.now c.args.p _ (c.list_book-listed.ensures _ b e (opened_as c.requires.opened b e)) _ _ c.in-Refused.is
-
-pub returns-in-Counts : goal.returns-in-Counts
-returns-in-Counts c = λ b e.
-    decides_list b _ _ c.args.exact c.args.upper c.args.answers.now c.args.p _ e _ (c.list_book-listed.ensures _ b e (opened_as c.requires.opened b e)) _ _ c.in-Counts.is
-    _ c.list_verdict-value.ensures _ c.named.ensures
+pub returns : goal.returns
+returns c = λ b e.
+    let a = c.args in
+    decides_list (listed_ok b _ _ _ (c.list_book.ensures _ b e c.requires) _ c.in_ok-need.was) _ e a.told a.tactic a.answers.now a.p
+    _ c.list_verdict-action.ensures _ c.named.ensures

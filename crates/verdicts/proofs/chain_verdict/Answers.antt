@@ -1,21 +1,27 @@
 -- `verdicts::chain_verdict` meets its contract: the check of the book and the answers, and then its chains. Assumes nothing.
-use mathlib.Core.Path.{sym, ◌∙◌}
-use Rattle.verdicts.proofs.Entries.{opened, both, chain_refused, chain_meets}
+use Rattle.std.proofs.lemmas.Result.{err_from_is_err_and}
+use Rattle.checking.proofs.Uses.{from_ok, from_err}
+use Rattle.verdicts.proofs.Laws.{can_walk, walked}
+use Rattle.verdicts.proofs.Entries.{chain_book, chain_wrong, chain_meets}
 use Rattle.verdicts.proofs.chain_verdict.Goals as goal
 
-pub by_chains-requires : goal.by_chains-requires
-by_chains-requires c =
-    let k = c.check-checked in let a = c.args in
-    let o = both a.book.now a.answers.now (sym (c.answered-reading.ensures a.book.now k.ensures.answer) ∙ c.in-Fine.is) in
-    opened _ _ k.ensures o.book o.read
+pub returns-in_err-contents : goal.returns-in_err-contents
+returns-in_err-contents c =
+    let p = err_from_is_err_and c.from_residual.result c.from_residual.ensures.1 in
+    rw (p.1, p.2) (chain_book _ _ _ (from_err _ _ c.check.ensures _ c.in_err-contents.was) _ _)
 
-pub returns-in-Refused : goal.returns-in-Refused
-returns-in-Refused c =
-    let k = c.check-checked in let a = c.args in
-    chain_refused a.book.now a.answers.now _ _ (sym (c.answered-reading.ensures a.book.now k.ensures.answer) ∙ c.in-Refused.is) _
+pub returns-in_err-check_answers : goal.returns-in_err-check_answers
+returns-in_err-check_answers c =
+    let p = err_from_is_err_and c.from_residual-in_err-check_answers.result c.from_residual-in_err-check_answers.ensures.1 in
+    let k = from_ok _ _ c.check.ensures _ c.in_ok-contents.was in
+    rw (p.1, p.2) (chain_wrong _ k.book k.read _ _ _ c.in_err-check_answers.ensures _)
 
-pub returns-in-Fine : goal.returns-in-Fine
-returns-in-Fine c =
-    let k = c.check-checked in let a = c.args in
-    let o = both a.book.now a.answers.now (sym (c.answered-reading.ensures a.book.now k.ensures.answer) ∙ c.in-Fine.is) in
-    chain_meets _ o.book o.read _ a.answers.now o.bits o.told c.by_chains.result (c.by_chains.ensures o.book o.read)
+pub chain_verdict-requires : goal.chain_verdict-requires
+chain_verdict-requires c = can_walk (from_ok _ _ c.check.ensures _ c.in_ok-contents.was)
+
+pub returns : goal.returns
+returns c =
+    let a = c.args in
+    let k = from_ok _ _ c.check.ensures _ c.in_ok-contents.was in
+    chain_meets _ k.book k.read a.answers.now _ c.in_ok-check_answers.ensures _ _
+    (walked k a.answers.now a.p c.chain_verdict.result c.chain_verdict.ensures k.book k.read)

@@ -1,6 +1,6 @@
 -- The measures of the cycle of calls {walk_chain, walk_rule}: the depth falls at each call, as it does in the model. And the loop over a chain's
 -- rules: whatever book is kept there, the walk of the rules from i on is the chain's.
-use Prim.Native.Nat.{◌+◌, ◌-◌, ◌*◌}
+use Rattle.std.proofs.Common.{◌+◌, ◌-◌, ◌*◌}
 use Rattle.model.specs.Tree.{Book}
 use Rattle.model.specs.Calls.{chain_of}
 use Rattle.model.specs.Chains.{walk}
@@ -18,8 +18,5 @@ decreases-walk_rule l = 2 * l.depth + 1
 
 abbrev pub invariant-walk_chain-loop-i : goal.invariant-walk_chain-loop-i
 invariant-walk_chain-loop-i l =
-    (b : Book) → Kept l.s l.first l.action l.target l.expression b → HasChain l.c b
-    → Left l.s l.action l.target l.expression (walk (l.depth - 1) b (matches l.answers (packet_of l.p))) (matches l.answers (packet_of l.p)) (chain_of b l.c) l.end l.i
-
-abbrev pub decreases-walk_chain-loop-i : goal.decreases-walk_chain-loop-i
-decreases-walk_chain-loop-i l = l.end - l.i
+    (b : Book) → Kept l.s l.contents b → HasChain l.c b
+    → Left l.s l.contents (walk (l.depth - 1) b (matches l.answers (packet_of l.p))) (matches l.answers (packet_of l.p)) (chain_of b l.c) l.i-end l.i

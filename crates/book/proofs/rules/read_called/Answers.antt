@@ -1,21 +1,24 @@
 -- Paths into the laws of ActionSteps.
-use mathlib.Core.Path.{sym, ◌∙◌, ap}
-use Rattle.numbers.specs.Told.{told}
-use Rattle.book.proofs.ActionSteps.{call_refused, call_entry, call_far, call_got}
+use Rattle.std.proofs.Common.{◌≡◌, ◌∙◌, arith}
+use Rattle.std.specs.Prelude.{ltb, ◌&&◌}
+use Rattle.std.proofs.lemmas.Bool.Decides.{nat_tests}
+use Rattle.std.proofs.lemmas.Result.{err_from_is_err_and}
+use Rattle.book.proofs.ActionSteps.{call_refused, call_none, call_got}
 use Rattle.book.proofs.rules.read_called.Goals as goal
 
-pub returns-then-c-eq0 : goal.returns-then-c-eq0
-returns-then-c-eq0 c =
-    call_entry _ _ _ _ _ (sym c.read_number.ensures ∙ ap told c.in-Got.is) c.if-c-eq0.true
+pub returns-in_err-number : goal.returns-in_err-number
+returns-in_err-number c =
+    let p = err_from_is_err_and c.from_residual.result c.from_residual.ensures.1 in
+    rw (p.1, p.2) (call_refused _ _ _ _ _ c.in_err-number.ensures)
 
-pub returns-then-chains-c : goal.returns-then-chains-c
-returns-then-chains-c c =
-    call_far _ _ _ _ _ (sym c.read_number.ensures ∙ ap told c.in-Got.is) c.if-c-eq0.false c.if-chains-c.true
+pub returns-then-not-contains : goal.returns-then-not-contains
+returns-then-not-contains c =
+    let v : (ltb 0 c.in_ok-number.number.value && ltb c.in_ok-number.number.value c.args.chains) ≡ c.contains.result =
+    rw c.contains.ensures.value (grind (arith, nat_tests)) in
+    rw c.at.ensures (call_none _ _ _ _ c.in_ok-number.ensures (v ∙ c.if-not-contains.true))
 
-pub returns-in-Refused : goal.returns-in-Refused
-returns-in-Refused c =
-    call_refused _ _ _ _ (sym c.read_number.ensures ∙ ap told c.in-Refused.is)
-
-pub returns-else-chains-c : goal.returns-else-chains-c
-returns-else-chains-c c =
-    call_got _ _ _ _ _ (sym c.read_number.ensures ∙ ap told c.in-Got.is) c.if-c-eq0.false c.if-chains-c.false
+pub returns : goal.returns
+returns c =
+    let v : (ltb 0 c.in_ok-number.number.value && ltb c.in_ok-number.number.value c.args.chains) ≡ c.contains.result =
+    rw c.contains.ensures.value (grind (arith, nat_tests)) in
+    call_got _ _ _ _ c.in_ok-number.ensures (v ∙ c.if-not-contains.false)

@@ -1,18 +1,22 @@
 -- Paths into the laws of RuleSteps.
-use mathlib.Core.Path.{sym, ◌∙◌}
-use Rattle.book.proofs.RuleSteps.{action_bad, match_bad, rule_got}
+use Rattle.std.proofs.Common.{arith}
+use Rattle.std.proofs.lemmas.Result.{err_from_is_err_and}
+use Rattle.book.proofs.RuleSteps.{match_bad, rule_got, rule_inside}
 use Rattle.book.proofs.rules.read_rule.Goals as goal
 
-pub returns-in-Refused : goal.returns-in-Refused
-returns-in-Refused c =
-    action_bad _ _ _ _ _ _ (λ rules sources. sym c.in-Refused.is ∙ c.read_action.ensures rules sources)
+pub returns-in_err-end : goal.returns-in_err-end
+returns-in_err-end c =
+    let p = err_from_is_err_and c.from_residual-in_err-end.result c.from_residual-in_err-end.ensures.1 in
+    rw (p.1, p.2) (match_bad _ _ _ _ _ c.in_ok-action.ensures _ _ c.in_err-end.ensures)
 
-pub returns-in-Refused-read_expression : goal.returns-in-Refused-read_expression
-returns-in-Refused-read_expression c =
-    match_bad _ _ _ _ _ _ _ (λ rules sources. sym c.in-Got.is ∙ c.read_action.ensures rules sources) _ _
-    (λ rules. sym c.in-Refused-read_expression.is ∙ c.read_expression.ensures rules)
+pub overflow_cast-result : goal.overflow_cast-result
+overflow_cast-result c = let h = rule_inside _ _ _ _ _ c.in_ok-action.ensures _ c.in_ok-end.ensures in omega (arith, c.requires)
 
-pub returns-in-Got-read_expression : goal.returns-in-Got-read_expression
-returns-in-Got-read_expression c =
-    rule_got _ _ _ _ _ _ _ (λ rules sources. sym c.in-Got.is ∙ c.read_action.ensures rules sources) _ _
-    (λ rules. sym c.in-Got-read_expression.is ∙ c.read_expression.ensures rules)
+pub overflow_cast-result-2 : goal.overflow_cast-result-2
+overflow_cast-result-2 c = let h = rule_inside _ _ _ _ _ c.in_ok-action.ensures _ c.in_ok-end.ensures in omega (arith, c.requires)
+
+pub overflow_cast-result-3 : goal.overflow_cast-result-3
+overflow_cast-result-3 c = let h = rule_inside _ _ _ _ _ c.in_ok-action.ensures _ c.in_ok-end.ensures in omega (arith, c.requires)
+
+pub returns : goal.returns
+returns c = rule_got _ _ _ _ _ c.in_ok-action.ensures _ c.in_ok-end.ensures

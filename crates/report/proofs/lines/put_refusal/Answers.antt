@@ -13,4 +13,4 @@ pub put_text-requires : goal.put_text-requires
 put_text-requires c = omega (arith, decimal_short)
 
 pub returns : goal.returns
-returns c = then (then (then (then c.put_text-a.ensures c.put_decimal-b.ensures) c.put_text-c.ensures) c.put_decimal-d.ensures) c.put_text.ensures
+returns c = rw (← c.number.ensures) (then (then (then (then c.put_text-a.ensures c.put_decimal-b.ensures) c.put_text-c.ensures) c.put_decimal-d.ensures) c.put_text.ensures)

@@ -1,7 +1,6 @@
--- One text for each phase.
+-- One text for each verdict.
 use native.Mathlib.Omega.{arith}
-use Rattle.text.proofs.Appends.{nothing, then, decimal_short}
-use Rattle.report.proofs.Phases.{told}
+use Rattle.text.proofs.Appends.{then, decimal_short}
 use Rattle.report.proofs.lines.put_verdict.Goals as goal
 
 pub put_text-c-requires : goal.put_text-c-requires
@@ -10,11 +9,8 @@ put_text-c-requires c = omega (arith, decimal_short)
 pub put_dotted-requires : goal.put_dotted-requires
 put_dotted-requires c = omega (arith, decimal_short)
 
-pub returns-in-Running : goal.returns-in-Running
-returns-in-Running c = let a = c.args in told c.in-Running.is (nothing a.buf.now a.at (omega (arith, c.requires)))
-
 pub returns-in-Certified : goal.returns-in-Certified
-returns-in-Certified c = told c.in-Certified.is c.put_text.ensures
+returns-in-Certified c = rw c.in-Certified.is c.put_text.ensures
 
 pub returns-in-Refused : goal.returns-in-Refused
-returns-in-Refused c = told c.in-Refused.is (then (then (then c.put_text-a.ensures c.put_decimal-b.ensures) c.put_text-c.ensures) c.put_dotted.ensures)
+returns-in-Refused c = rw c.in-Refused.is (then (then (then c.put_text-a.ensures c.put_decimal-b.ensures) c.put_text-c.ensures) c.put_dotted.ensures)

@@ -1,22 +1,25 @@
 -- `review::rules::is_rule` meets its contract: each test by itself, and then the conditions. Assumes nothing.
-use native.Mathlib.Omega.{arith}
-use Rattle.review.proofs.ToldRules.{rule_short, rule_long, rule_other, rule_by_conditions}
+use Rattle.std.proofs.Common.{◌∙◌}
+use borrow.Author.Tests.{lt-leb}
+use Rattle.review.proofs.ToldRules.{front_short, front_none, front_long, front_other, front_conditions}
 use Rattle.review.proofs.rules.is_rule.Goals as goal
 
-pub returns-then-len-place : goal.returns-then-len-place
-returns-then-len-place c = let a = c.args in λ b k. rule_short b a.words.now a.place (omega (arith, c.if-len-place.true))
+pub returns-in_default : goal.returns-in_default
+returns-in_default c = λ b k. front_none b c.args.list.now c.args.place c.get.result c.get.ensures.lookup c.in_default.is
 
-pub returns-then-left-lt3 : goal.returns-then-left-lt3
-returns-then-left-lt3 c = let a = c.args in λ b k. rule_short b a.words.now a.place (omega (arith, c.if-left-lt3.true, c.if-len-place.false))
+pub returns-in_default-rule : goal.returns-in_default-rule
+returns-in_default-rule c = λ b k. front_short b c.args.list.now c.args.place c.get.result c.get.ensures.lookup _ c.in-Some.is c.in_default-rule.len_below
 
-pub returns-then-rest-count : goal.returns-then-rest-count
-returns-then-rest-count c = let a = c.args in λ b k. rule_long b a.words.now a.place (omega (arith, c.if-left-lt3.false, c.if-len-place.false))
-    (omega (arith, c.if-rest-count.true, c.if-left-lt3.false, c.if-len-place.false))
+pub returns-in_default-get : goal.returns-in_default-get
+returns-in_default-get c = λ b k.
+    front_long b c.args.list.now c.args.place c.get.result c.get.ensures.lookup _ c.in-Some.is c.in-len3-up.len_at_least _ c.get-2.ensures.lookup c.in_default-get.is
 
-pub returns-then-words-place-gt1 : goal.returns-then-words-place-gt1
-returns-then-words-place-gt1 c = let a = c.args in λ b k. rule_other b a.words.now a.place (omega (arith, c.if-left-lt3.false, c.if-len-place.false))
-    (omega (arith, c.if-rest-count.false, c.if-left-lt3.false, c.if-len-place.false)) c.if-words-place-gt1.true
+pub returns-then-action-le-DROP : goal.returns-then-action-le-DROP
+returns-then-action-le-DROP c = λ b k.
+    front_conditions b c.args.list.now c.args.place c.get.result c.get.ensures.lookup _ c.in-Some.is c.in-len3-up.len_at_least _ c.get-2.ensures.lookup _ c.in-Some-get.is
+    c.if-action-le-DROP.true _ (c.are_conditions.ensures b k)
 
-pub returns : goal.returns
-returns c = let a = c.args in λ b k. rule_by_conditions b a.words.now a.place (omega (arith, c.if-left-lt3.false, c.if-len-place.false))
-    (omega (arith, c.if-rest-count.false, c.if-left-lt3.false, c.if-len-place.false)) (omega arith) _ (c.are_conditions.ensures b k)
+pub returns-else-action-le-DROP : goal.returns-else-action-le-DROP
+returns-else-action-le-DROP c = λ b k.
+    lt-leb _ 1 c.if-action-le-DROP.false
+    ∙ front_other b c.args.list.now c.args.place c.get.result c.get.ensures.lookup _ c.in-Some.is c.in-len3-up.len_at_least _ c.get-2.ensures.lookup _ c.in-Some-get.is c.if-action-le-DROP.false

@@ -1,9 +1,7 @@
--- `reviewer::words::word` meets its contract, by its test. Assumes nothing.
-use Rattle.reviewer.proofs.Laws.{fits, too_large}
+-- `reviewer::words::word` meets its contract. Assumes nothing.
+use Rattle.std.proofs.Common.{◌∙◌}
+use Rattle.reviewer.proofs.Laws.{told}
 use Rattle.reviewer.proofs.words.word.Goals as goal
 
-pub returns-then-x-le-GREATEST : goal.returns-then-x-le-GREATEST
-returns-then-x-le-GREATEST c = fits _ c.if-x-le-GREATEST.true
-
 pub returns : goal.returns
-returns c = too_large _ c.if-x-le-GREATEST.false
+returns c = c.unwrap_or.ensures ∙ told c.try_from.result c.args.x c.try_from.ensures
