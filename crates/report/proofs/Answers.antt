@@ -1,45 +1,31 @@
 -- The buffer's report handed out: all of it, or none.
 use Prim.Native.Nat.{ℕ, ◌≤◌, ◌<◌}
 use native.Mathlib.Omega.{arith}
-use native.Mathlib.Nat.{zero-add}
 use mathlib.Core.Bool.{Bool, true, false}
 use mathlib.Core.List.{List, ◌++◌}
 use mathlib.Core.Path.{◌≡◌, ap, sym, ◌∙◌}
 use lib.Dec.{leb}
-use lib.ListN.{length, take, drop, length-append}
-use lib.Seq.{take_at}
+use lib.ListN.{length, drop, length-append}
 use borrow.Author.Tests.{le-leb, lt-leb}
-use Rattle.text.specs.Puts.{Puts}
 use Rattle.report.specs.Reports.{answer_of, text_after}
 use Rattle.model.specs.Answer.{fine, refused, when}
-use Rattle.model.specs.Filling.{put}
-use Rattle.model.proofs.Filling.{put_front}
 use Rattle.std.specs.Prelude.{Result, Ok, Err}
 use Rattle.refusals.specs.declared.Refusal.{Refusal}
 use Rattle.refusals.specs.declared.Fault.TheVariants.{TextTooShort}
 use Rattle.refusals.specs.Refusals.{refusal_at, told}
 
-module _ (w t : List ℕ) (n : ℕ) (buf : List ℕ) (p : Puts w 0 t n buf) where
-  counted : n ≡ length t
-  counted = p.next ∙ zero-add (length t)
-
-  pub written : take n buf ≡ t
-  written = ap (take n) (p.written ∙ put_front w t) ∙ take_at t (drop (length t) w) n (sym counted)
-
-  pub as_long : n ≡ length (take n buf)
-  as_long = counted ∙ ap length (sym written)
-
+module _ (t : List ℕ) (n : ℕ) (counted : n ≡ length t) where
   pub short : (text : List ℕ) → length text < n → (told {A = ℕ} (Err (refusal_at TextTooShort n)) ≡ answer_of t (length text)) × (text ≡ text_after t text)
   unfolding answer_of text_after
   short text lt =
       let k : leb (length t) (length text) ≡ _ = lt-leb (length t) (length text) (omega (arith, counted)) in
       (rw (k, counted), rw k)
 
-  pub handed : (text : List ℕ) → n ≤ length text → (r : ℕ) (text' : List ℕ) → Puts text 0 (take n buf) r text' → (told (Ok n) ≡ answer_of t (length text)) × (text' ≡ text_after t text)
+  pub handed : (text : List ℕ) → n ≤ length text → (told (Ok n) ≡ answer_of t (length text)) × (t ++ drop n text ≡ text_after t text)
   unfolding answer_of text_after
-  handed text le r text' q =
+  handed text le =
       let k : leb (length t) (length text) ≡ _ = le-leb (length t) (length text) (omega (arith, counted)) in
-      (rw (k, counted), rw k (q.written ∙ ap (put text 0) written ∙ put_front text t))
+      (rw (k, counted), rw (k, counted))
 
 -- bytes that were written are there
 pub bytes_given : (t text text' : List ℕ) (r : Result ℕ Refusal) (n : ℕ) → told r ≡ answer_of t (length text) → text' ≡ text_after t text → r ≡ Ok n → n ≤ length text'

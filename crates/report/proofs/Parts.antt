@@ -1,8 +1,9 @@
 -- The lines below the header, and what is refused before them: the book, then the plan, then the room for the list.
-use Rattle.std.specs.Prelude.{Ok, Err}
-use Rattle.std.proofs.Common.{◌≡◌, ◌∙◌, ℕ, List, ◌++◌, length, take, drop, refl, ap, sym, subst}
+use Rattle.std.specs.Prelude.{⊤, Ok, Err}
+use Rattle.std.proofs.Common.{◌≡◌, ◌∙◌, ℕ, List, ◌++◌, length, take, drop, refl, ap, sym, subst, append_assoc}
 use lib.Seq.{take_at}
 use borrow.Author.Tests.{le-leb}
+use Rattle.arrayvec.specs.ArrayVec.{ArrayVec}
 use Rattle.model.specs.Answer.{Answer, fine, refused}
 use Rattle.model.specs.Tree.{Book}
 use Rattle.model.specs.Calls.{readable}
@@ -20,8 +21,6 @@ use Rattle.plan.specs.declared.PlanContents.{PlanContents}
 use Rattle.plan.proofs.Charted.{plan_charted}
 use Rattle.room.specs.declared.Need.{Need}
 use Rattle.listing.proofs.Laws.{ListedIn}
-use Rattle.text.specs.Puts.{Puts}
-use Rattle.text.proofs.Appends.{then}
 use Rattle.report.specs.Lines.{counts_text, refusal_text}
 use Rattle.report.specs.Reports.{PortsPut, BodyPut, report_entry}
 
@@ -53,8 +52,8 @@ module _ (book plan words : List ℕ) where
       unfolding report_entry
       room_refused ports e f = rw (read, e, f)
 
-  pub body_refused : (e : Refusal) → entry ≡ refused (number_of e.fault) e.place → (w : List ℕ) (at : ℕ) → BodyPut entry w at (Err e) w
-  body_refused e q w at = rw q (refl, refl, refl)
+  pub body_refused : (e : Refusal) → entry ≡ refused (number_of e.fault) e.place → (w : ArrayVec ℕ) → BodyPut entry w (Err e) w
+  body_refused e q w = rw q (refl, refl, refl)
 
   pub words_refused : (e : Refusal) → entry ≡ refused (number_of e.fault) e.place → (words' : List ℕ) → words' ≡ words → words' ≡ words_after entry book words
   words_refused e q words' same = rw q same
@@ -70,30 +69,32 @@ module _ (book plan words : List ℕ) where
     words_filled = rw (entry_fine, read) listed.lent
 
     pub body_put : (total : ℕ) → total ≡ b.total → (c : PlanContents) → c ≡ contents_of ports
-        → (w : List ℕ) (at m : ℕ) (w₁ : List ℕ) → Puts w at (counts_text total need.rules) m w₁ → (r : ℕ) (w' : List ℕ) → PortsPut book c w₁ m r w'
-        → BodyPut entry w at (Ok r) w'
-    body_put total t c q w at m w₁ p r w' ps =
-        let first : Puts w at (counts_text b.total (length (list_of b))) m w₁ = rw (t, listed.rules) at p in
+        → (w w₁ w' : ArrayVec ℕ) → w₁.items ≡ w.items ++ counts_text total need.rules → PortsPut book c w₁ w' → BodyPut entry w (Ok tt) w'
+    body_put total t c q w w₁ w' p ps =
+        let first : w₁.items ≡ w.items ++ counts_text b.total (length (list_of b)) = rw (t, listed.rules) at p in
         let same : ports_at c 0 c.ports ≡ ports = rw q (plan_charted plan ports is_plan).ports in
-        let rest : Puts w₁ m (port_lines (list_of b) ports) r w' = subst (λ (x : List Port). Puts w₁ m (port_lines (list_of b) x) r w') same (ps b read) in
-        rw entry_fine (then first rest)
+        let rest : w'.items ≡ w₁.items ++ port_lines (list_of b) ports = subst (λ (x : List Port). w'.items ≡ w₁.items ++ port_lines (list_of b) x) same (ps b read) in
+        rw entry_fine (rest ∙ ap (λ (t : List ℕ). t ++ port_lines (list_of b) ports) first ∙ append_assoc w.items _ _)
 
 -- THE WHOLE: the header, and the part behind it
-module _ (a : Answer (List ℕ)) (w : List ℕ) (m : ℕ) (w₁ : List ℕ) (header : Puts w 0 (bytes "spoof report 1\n") m w₁) where
-  pub whole_fine : (r : ℕ) (w' : List ℕ) → BodyPut a w₁ m (Ok r) w' → Puts w 0 (bytes "spoof report 1\n" ++ body_text a) r w'
-  whole_fine r w' h = go a h
+module _ (a : Answer (List ℕ)) (w : ArrayVec ℕ) (header : w.items ≡ bytes "spoof report 1\n") where
+  behind : (w' : ArrayVec ℕ) → w'.items ≡ w.items ++ body_text a → w'.items ≡ bytes "spoof report 1\n" ++ body_text a
+  behind w' h = rw header at h
+
+  pub whole_fine : (u : ⊤) (w' : ArrayVec ℕ) → BodyPut a w (Ok u) w' → w'.items ≡ bytes "spoof report 1\n" ++ body_text a
+  whole_fine u w' h = behind w' (go a h)
     where
-      go : (x : Answer (List ℕ)) → BodyPut x w₁ m (Ok r) w' → Puts w 0 (bytes "spoof report 1\n" ++ body_text x) r w'
-      go (fine t) g = then header g
+      go : (x : Answer (List ℕ)) → BodyPut x w (Ok u) w' → w'.items ≡ w.items ++ body_text x
+      go (fine t) g = g
       go (refused n p) g = absurd g
 
-  pub whole_refused : (e : Refusal) (w₂ : List ℕ) → BodyPut a w₁ m (Err e) w₂ → (r : ℕ) (w' : List ℕ) → Puts w₂ m (refusal_text (number_of e.fault) e.place) r w'
-      → Puts w 0 (bytes "spoof report 1\n" ++ body_text a) r w'
-  whole_refused e w₂ h r w' q = go a h
+  pub whole_refused : (e : Refusal) (w₁ w' : ArrayVec ℕ) → BodyPut a w (Err e) w₁ → w'.items ≡ w₁.items ++ refusal_text (number_of e.fault) e.place
+      → w'.items ≡ bytes "spoof report 1\n" ++ body_text a
+  whole_refused e w₁ w' h q = behind w' (go a h)
     where
-      go : (x : Answer (List ℕ)) → BodyPut x w₁ m (Err e) w₂ → Puts w 0 (bytes "spoof report 1\n" ++ body_text x) r w'
+      go : (x : Answer (List ℕ)) → BodyPut x w (Err e) w₁ → w'.items ≡ w.items ++ body_text x
       go (fine t) g = absurd g
-      go (refused n p) g = rw (g.0, g.1) (then header (rw g.2 at q))
+      go (refused n p) g = rw (g.0, g.1) (rw g.2 at q)
 
 pub report_is : (book plan : List ℕ) (lent : ℕ) → report book plan lent ≡ bytes "spoof report 1\n" ++ body_text (report_entry book plan lent)
 unfolding report report_entry

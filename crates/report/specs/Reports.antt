@@ -1,5 +1,6 @@
 -- The report's answer, and what its functions write. Definitions only.
-use Rattle.std.specs.Prelude.{ℕ, List, ◌++◌, ◌≡◌, leb, length, get_or, drop, Result, Ok, Err}
+use Rattle.std.specs.Prelude.{ℕ, ⊤, List, ◌++◌, ◌≡◌, leb, length, get_or, drop, Result, Ok, Err}
+use Rattle.arrayvec.specs.ArrayVec.{ArrayVec}
 use Rattle.model.specs.Limits.{greatest}
 use Rattle.model.specs.Answer.{Answer, fine, refused, ◌>>=◌, when}
 use Rattle.model.specs.Tree.{Book}
@@ -16,7 +17,6 @@ use Rattle.plan.specs.Contents as plans
 use Rattle.plan.specs.declared.PlanContents.{PlanContents}
 use Rattle.review.specs.Reviews.{phase_told}
 use Rattle.review.specs.declared.Reviewed.{Reviewed}
-use Rattle.text.specs.Puts.{Puts}
 
 -- THE ENTRY: 1 to 10, then 11, then 13; and else the lines below the header
 abbrev pub list_part : Book → List Port → ℕ → Answer (List ℕ)
@@ -64,12 +64,12 @@ pub record PlanIn (c : PlanContents) : Type 0 where
 abbrev pub PortReviewed : List ℕ → PlanContents → ℕ → Reviewed → Type 0
 PortReviewed s c i r = (b : Book) → readable s ≡ fine b → phase_told r ≡ model.review (get_or c.number i 0) (complement greatest (plans.ranges_at c i)) (list_of b)
 
-abbrev pub PortsPut : List ℕ → PlanContents → List ℕ → ℕ → ℕ → List ℕ → Type 0
-PortsPut s c w at r w' = (b : Book) → readable s ≡ fine b → Puts w at (port_lines (list_of b) (plans.ports_at c 0 c.ports)) r w'
+abbrev pub PortsPut : List ℕ → PlanContents → ArrayVec ℕ → ArrayVec ℕ → Type 0
+PortsPut s c w w' = (b : Book) → readable s ≡ fine b → w'.items ≡ w.items ++ port_lines (list_of b) (plans.ports_at c 0 c.ports)
 
 -- the lines below the header, or a refusal and no byte changed
-abbrev pub BodyPut : Answer (List ℕ) → List ℕ → ℕ → Result ℕ Refusal → List ℕ → Type 0
-BodyPut (fine t) w at (Ok r) w' = Puts w at t r w'
-BodyPut (fine t) w at (Err e) w' = ⊥
-BodyPut (refused n p) w at (Ok r) w' = ⊥
-BodyPut (refused n p) w at (Err e) w' = (n ≡ number_of e.fault) × (p ≡ e.place) × (w' ≡ w)
+abbrev pub BodyPut : Answer (List ℕ) → ArrayVec ℕ → Result ⊤ Refusal → ArrayVec ℕ → Type 0
+BodyPut (fine t) w (Ok r) w' = w'.items ≡ w.items ++ t
+BodyPut (fine t) w (Err e) w' = ⊥
+BodyPut (refused n p) w (Ok r) w' = ⊥
+BodyPut (refused n p) w (Err e) w' = (n ≡ number_of e.fault) × (p ≡ e.place) × (w' ≡ w)

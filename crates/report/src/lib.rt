@@ -2,14 +2,15 @@
 #![tactic(auto)]
 
 ghost use Rattle.std.specs.Prelude.{◌≡◌, ◌+◌, ◌*◌, ◌≤◌, ◌<◌, length};
+ghost use Rattle.arrayvec.specs.ArrayVec.{array_vec_len};
 ghost use Rattle.model.specs.Limits.{ports_most};
 ghost use Rattle.model.specs.Report.{report as reportText};
 ghost use Rattle.model.specs.Entries.{words_after};
 ghost use Rattle.refusals.specs.Refusals.{told};
-ghost use Rattle.text.specs.Puts.{Puts};
 ghost use Rattle.report.specs.Lines.{line_most, body_most, buffer_bytes};
 ghost use Rattle.report.specs.Reports.{ListIn, PlanIn, PortReviewed, PortsPut, BodyPut, report_entry, answer_of, text_after};
 
+use arrayvec::ArrayVec;
 use checking::check;
 use listing::list_book;
 use plan::{PORTS, PlanContents, read_plan};
@@ -33,6 +34,9 @@ const LINE: usize = 91;
 // Room for the longest report: the header, the counts, and a line for each port that a plan may have.
 pub const BUFFER: usize = HEADER + COUNTS + PORTS * LINE;
 
+// The report while it is written.
+type Text = ArrayVec<u8, BUFFER>;
+
 // Port `i` of the plan, over the book's list.
 fn review_port(book: &[u8], list: &[u32], plan: &PlanContents, i: usize) -> Reviewed
     requires { ListIn book.now list.now × PlanIn plan.now × (i < plan.now.ports) }
@@ -43,47 +47,40 @@ fn review_port(book: &[u8], list: &[u32], plan: &PlanContents, i: usize) -> Revi
 }
 
 // A line for each port, in the order of the plan.
-fn put_ports(book: &[u8], list: &[u32], plan: &PlanContents, buf: &mut [u8], at: usize) -> usize
-    requires { ListIn book.now list.now × PlanIn plan.now × (at + ports_most * line_most ≤ length buf.old) }
-    ensures { PortsPut book.now plan.now buf.old at result buf.new }
+fn put_ports(book: &[u8], list: &[u32], plan: &PlanContents, text: &mut Text)
+    requires { ListIn book.now list.now × PlanIn plan.now × (array_vec_len text.old + ports_most * line_most ≤ buffer_bytes) }
+    ensures { PortsPut book.now plan.now text.old text.new }
 {
-    let mut to = at;
     for i in 0..plan.ports {
         let reviewed = review_port(book, list, plan, i);
-        to = put_port(buf, to, plan.number[i], reviewed);
+        put_port(text, plan.number[i], reviewed);
     }
-    to
 }
 
 // The lines below the header. What is refused is so before the first of them: the book, then the plan, then the room for the list.
-fn put_body(
-    book: &[u8],
-    plan: &[u8],
-    words: &mut [u32],
-    buf: &mut [u8],
-    at: usize,
-) -> Result<usize, Refusal>
-    requires { at + body_most ≤ length buf.old }
-    ensures body { BodyPut (report_entry book.now plan.now (length words.old)) buf.old at result buf.new }
+fn put_body(book: &[u8], plan: &[u8], words: &mut [u32], text: &mut Text) -> Result<(), Refusal>
+    requires { array_vec_len text.old + body_most ≤ buffer_bytes }
+    ensures body { BodyPut (report_entry book.now plan.now (length words.old)) text.old result text.new }
     ensures lent { words.new ≡ words_after (report_entry book.now plan.now (length words.old)) book.now words.old }
 {
     let checked = check(book)?;
     let plan = read_plan(plan)?;
     let need = list_book(&checked, words)?;
-    let next = put_counts(buf, at, checked.contents.rules, need.rules);
-    Ok(put_ports(book, &words[..need.words], &plan, buf, next))
+    put_counts(text, checked.contents.rules, need.rules);
+    put_ports(book, &words[..need.words], &plan, text);
+    Ok(())
 }
 
-fn write_report(book: &[u8], plan: &[u8], words: &mut [u32], buf: &mut [u8]) -> usize
-    requires { buffer_bytes ≤ length buf.old }
-    ensures text { Puts buf.old 0 (reportText book.now plan.now (length words.old)) result buf.new }
+fn write_report(book: &[u8], plan: &[u8], words: &mut [u32]) -> Text
+    ensures text { result.items ≡ reportText book.now plan.now (length words.old) }
     ensures lent { words.new ≡ words_after (report_entry book.now plan.now (length words.old)) book.now words.old }
 {
-    let at = put_text(buf, 0, b"spoof report 1\n");
-    match put_body(book, plan, words, buf, at) {
-        Ok(end) => end,
-        Err(refusal) => put_refusal(buf, at, refusal),
+    let mut text = Text::new();
+    put_text(&mut text, b"spoof report 1\n");
+    if let Err(refusal) = put_body(book, plan, words, &mut text) {
+        put_refusal(&mut text, refusal);
     }
+    text
 }
 
 // THE REPORT: how many bytes it has. A text that is too short for it is left as it was.
@@ -97,11 +94,11 @@ pub fn report(
     ensures text { text.new ≡ text_after (reportText book.now plan.now (length words.old)) text.old }
     ensures lent { words.new ≡ words_after (report_entry book.now plan.now (length words.old)) book.now words.old }
 {
-    let mut buf = [0; BUFFER];
-    let n = write_report(book, plan, words, &mut buf);
+    let written = write_report(book, plan, words);
+    let n = written.len();
     if text.len() < n {
         return Err(Fault::TextTooShort.at(n));
     }
-    put_text(text, 0, &buf[..n]);
+    text[..n].copy_from_slice(written.as_slice());
     Ok(n)
 }

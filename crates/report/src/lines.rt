@@ -1,59 +1,70 @@
-// The report's lines, each appended to a lent buffer.
-ghost use Rattle.std.specs.Prelude.{◌+◌, ◌≤◌, length};
-ghost use Rattle.refusals.specs.Refusals.{number_of};
-ghost use Rattle.text.specs.Puts.{Puts};
-ghost use Rattle.review.specs.Reviews.{phase_told};
-ghost use Rattle.model.specs.Report.{verdict_text};
-ghost use Rattle.report.specs.Lines.{verdict_most, line_most, counts_most, refusal_most, port_text, counts_text, refusal_text};
+// The report's lines, each appended to the text that is written.
+#![tactic(auto, using(text::proofs::Appends::length_both, text::proofs::Appends::decimal_short, crate::proofs::Lengths::verdict_short))]
 
+ghost use Rattle.std.specs.Prelude.{◌≡◌, ◌+◌, ◌≤◌, ◌++◌};
+ghost use Rattle.arrayvec.specs.ArrayVec.{array_vec_len};
+ghost use Rattle.model.specs.Text.{bytes};
+ghost use Rattle.model.specs.Report.{verdict_text};
+ghost use Rattle.refusals.specs.Refusals.{number_of};
+ghost use Rattle.review.specs.Reviews.{phase_told};
+ghost use Rattle.report.specs.Lines.{verdict_most, line_most, counts_most, refusal_most, buffer_bytes, port_text, counts_text, refusal_text};
+
+use crate::Text;
 use book::RuleNumber;
 use refusals::Refusal;
 use review::Reviewed;
 use text::{put_decimal, put_dotted, put_text};
 
-pub fn put_verdict(buf: &mut [u8], at: usize, reviewed: Reviewed) -> usize
-    requires { at + verdict_most ≤ length buf.old }
-    ensures { Puts buf.old at (verdict_text (phase_told reviewed)) result buf.new }
+pub fn put_verdict(text: &mut Text, reviewed: Reviewed)
+    requires { array_vec_len text.old + verdict_most ≤ buffer_bytes }
+    ensures { text.new.items ≡ text.old.items ++ verdict_text (phase_told reviewed) }
 {
     match reviewed {
-        Reviewed::Certified => put_text(buf, at, b" certified"),
+        Reviewed::Certified => put_text(text, b" certified"),
         Reviewed::Refused(RuleNumber(rule), source) => {
-            let a = put_text(buf, at, b" refused rule ");
-            let b = put_decimal(buf, a, rule as usize);
-            let c = put_text(buf, b, b" source ");
-            put_dotted(buf, c, source)
+            put_text(text, b" refused rule ");
+            put_decimal(text, rule as usize);
+            put_text(text, b" source ");
+            put_dotted(text, source);
         }
     }
 }
 
-pub fn put_port(buf: &mut [u8], at: usize, number: u32, reviewed: Reviewed) -> usize
-    requires { at + line_most ≤ length buf.old }
-    ensures { Puts buf.old at (port_text number (phase_told reviewed)) result buf.new }
+pub fn put_port(text: &mut Text, number: u32, reviewed: Reviewed)
+    requires { array_vec_len text.old + line_most ≤ buffer_bytes }
+    ensures { text.new.items ≡ text.old.items ++ port_text number (phase_told reviewed) }
 {
-    let a = put_text(buf, at, b"port ");
-    let b = put_decimal(buf, a, number as usize);
-    let c = put_verdict(buf, b, reviewed);
-    put_text(buf, c, b"\n")
+    put_text(text, b"port ");
+    put_decimal(text, number as usize);
+    put_verdict(text, reviewed);
+    end_line(text);
 }
 
-pub fn put_counts(buf: &mut [u8], at: usize, rules: usize, list: usize) -> usize
-    requires { at + counts_most ≤ length buf.old }
-    ensures { Puts buf.old at (counts_text rules list) result buf.new }
+pub fn put_counts(text: &mut Text, rules: usize, list: usize)
+    requires { array_vec_len text.old + counts_most ≤ buffer_bytes }
+    ensures { text.new.items ≡ text.old.items ++ counts_text rules list }
 {
-    let a = put_text(buf, at, b"rules ");
-    let b = put_decimal(buf, a, rules);
-    let c = put_text(buf, b, b" list ");
-    let d = put_decimal(buf, c, list);
-    put_text(buf, d, b"\n")
+    put_text(text, b"rules ");
+    put_decimal(text, rules);
+    put_text(text, b" list ");
+    put_decimal(text, list);
+    end_line(text);
 }
 
-pub fn put_refusal(buf: &mut [u8], at: usize, refusal: Refusal) -> usize
-    requires { at + refusal_most ≤ length buf.old }
-    ensures { Puts buf.old at (refusal_text (number_of refusal.fault) refusal.place) result buf.new }
+pub fn put_refusal(text: &mut Text, refusal: Refusal)
+    requires { array_vec_len text.old + refusal_most ≤ buffer_bytes }
+    ensures { text.new.items ≡ text.old.items ++ refusal_text (number_of refusal.fault) refusal.place }
 {
-    let a = put_text(buf, at, b"refused ");
-    let b = put_decimal(buf, a, refusal.fault.number() as usize);
-    let c = put_text(buf, b, b" place ");
-    let d = put_decimal(buf, c, refusal.place);
-    put_text(buf, d, b"\n")
+    put_text(text, b"refused ");
+    put_decimal(text, refusal.fault.number() as usize);
+    put_text(text, b" place ");
+    put_decimal(text, refusal.place);
+    end_line(text);
+}
+
+fn end_line(text: &mut Text)
+    requires { array_vec_len text.old + 1 ≤ buffer_bytes }
+    ensures { text.new.items ≡ text.old.items ++ bytes "\n" }
+{
+    text.push(b'\n');
 }

@@ -1,61 +1,58 @@
-// Appends to a lent buffer: each function answers the place behind what it wrote.
-#![tactic(auto)]
+// Appends to a text of a fixed capacity, which has room for what comes.
+#![tactic(auto, using(crate::proofs::Appends::length_both, crate::proofs::Appends::digits_short))]
 
-ghost use Rattle.std.specs.Prelude.{◌+◌, ◌≤◌, length, ◌∷◌};
+ghost use Rattle.std.specs.Prelude.{◌≡◌, ◌+◌, ◌≤◌, ◌∷◌, ◌++◌, length};
 ghost use Rattle.model.specs.Report.{digits, decimal, dotted};
-ghost use Rattle.text.specs.Puts.{Puts, dotted_most, decimal_most};
+ghost use Rattle.arrayvec.specs.ArrayVec.{array_vec_len};
+ghost use Rattle.text.specs.Puts.{dotted_most, decimal_most};
 
-pub fn put_text(buf: &mut [u8], at: usize, text: &[u8]) -> usize
-    requires { at + length text.now ≤ length buf.old }
-    ensures { Puts buf.old at text.now result buf.new }
+use arrayvec::ArrayVec;
+
+pub fn put_text<const N: usize>(text: &mut ArrayVec<u8, N>, xs: &[u8])
+    requires { array_vec_len text.old + length xs.now ≤ N }
+    ensures { text.new.items ≡ text.old.items ++ xs.now }
 {
-    let end = at + text.len();
-    buf[at..end].copy_from_slice(text);
-    end
+    text.try_extend_from_slice(xs).unwrap();
 }
 
 // At most n digits: the last one stands behind those of what is left without it.
-fn put_digits(buf: &mut [u8], at: usize, n: usize, x: usize) -> usize
-    requires { at + n ≤ length buf.old }
-    ensures { Puts buf.old at (digits n x) result buf.new }
+fn put_digits<const N: usize>(text: &mut ArrayVec<u8, N>, n: usize, x: usize)
+    requires { array_vec_len text.old + n ≤ N }
+    ensures { text.new.items ≡ text.old.items ++ digits n x }
 {
     if n == 0 {
-        return at;
+        return;
     }
-    if x < 10 {
-        buf[at] = b'0' + x as u8;
-        return at + 1;
+    if x >= 10 {
+        put_digits(text, n - 1, x / 10);
     }
-    let last = x % 10;
-    let next = put_digits(buf, at, n - 1, x / 10);
-    buf[next] = b'0' + last as u8;
-    next + 1
+    text.push(b'0' + (x % 10) as u8);
 }
 
-pub fn put_decimal(buf: &mut [u8], at: usize, x: usize) -> usize
-    requires { at + decimal_most ≤ length buf.old }
-    ensures { Puts buf.old at (decimal x) result buf.new }
+pub fn put_decimal<const N: usize>(text: &mut ArrayVec<u8, N>, x: usize)
+    requires { array_vec_len text.old + decimal_most ≤ N }
+    ensures { text.new.items ≡ text.old.items ++ decimal x }
 {
-    put_digits(buf, at, 10, x)
-}
-
-// A dot and a number.
-fn put_part(buf: &mut [u8], at: usize, x: usize) -> usize
-    requires { at + (1 + decimal_most) ≤ length buf.old }
-    ensures { Puts buf.old at (46 ∷ decimal x) result buf.new }
-{
-    buf[at] = b'.';
-    put_decimal(buf, at + 1, x)
+    put_digits(text, 10, x);
 }
 
 // An address by its four bytes, the highest first.
-pub fn put_dotted(buf: &mut [u8], at: usize, x: u32) -> usize
-    requires { at + dotted_most ≤ length buf.old }
-    ensures { Puts buf.old at (dotted x) result buf.new }
+pub fn put_dotted<const N: usize>(text: &mut ArrayVec<u8, N>, x: u32)
+    requires { array_vec_len text.old + dotted_most ≤ N }
+    ensures { text.new.items ≡ text.old.items ++ dotted x }
 {
     let [a, b, c, d] = x.to_be_bytes();
-    let first = put_decimal(buf, at, usize::from(a));
-    let second = put_part(buf, first, usize::from(b));
-    let third = put_part(buf, second, usize::from(c));
-    put_part(buf, third, usize::from(d))
+    put_decimal(text, usize::from(a));
+    put_part(text, usize::from(b));
+    put_part(text, usize::from(c));
+    put_part(text, usize::from(d));
+}
+
+// A dot and a number.
+fn put_part<const N: usize>(text: &mut ArrayVec<u8, N>, x: usize)
+    requires { array_vec_len text.old + (1 + decimal_most) ≤ N }
+    ensures { text.new.items ≡ text.old.items ++ 46 ∷ decimal x }
+{
+    text.push(b'.');
+    put_decimal(text, x);
 }

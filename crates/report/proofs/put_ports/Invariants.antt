@@ -3,4 +3,4 @@ use Rattle.report.proofs.PortLoop.{Going}
 use Rattle.report.proofs.put_ports.Given as goal
 
 abbrev pub invariant-loop-i : goal.invariant-loop-i
-invariant-loop-i l = Going l.book l.plan l.initial.buf l.at l.buf l.to l.i
+invariant-loop-i l = Going l.book l.plan l.initial.text l.text l.i
