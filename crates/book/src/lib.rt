@@ -1,11 +1,11 @@
 // Reads a book: the whole grammar of document 01, refusals 1 to 8.
 #![tactic(auto)]
 
-ghost use Rattle.std.specs.Prelude.{◌≡◌};
+ghost use Rattle.std.specs.Prelude.{◌≡◌, ◌<◌, length, take, drop};
 ghost use Rattle.model.specs.Book.{book_of};
 ghost use Rattle.refusals.specs.Refusals.{told};
 ghost use Rattle.book.specs.Told.{book_answer};
-ghost use Rattle.book.specs.Contents.{verdict_number, verdict_of};
+ghost use Rattle.book.specs.Contents.{verdict_number, verdict_of, first_of, rules_in, Shape};
 
 use chains::read_chains;
 use numbers::read_field;
@@ -42,11 +42,11 @@ pub enum Action {
     Call(ChainNumber),
 }
 
-// What a policy says, and what every walk comes to in the end.
+// What a policy says, and what every walk comes to in the end. The discriminants are document 01's numbers.
 #[derive(Clone, Copy, PartialEq, Eq)]
 pub enum Verdict {
-    Accept,
-    Drop,
+    Accept = 0,
+    Drop = 1,
 }
 
 impl Verdict {
@@ -54,13 +54,11 @@ impl Verdict {
     pub fn number(self) -> u32
         ensures { result ≡ verdict_number self }
     {
-        match self {
-            Verdict::Accept => 0,
-            Verdict::Drop => 1,
-        }
+        self as u32
     }
 
-    fn of(number: u32) -> Verdict
+    // The verdict of a number: 0 is accept, any other drop.
+    pub fn of(number: u32) -> Verdict
         ensures { result ≡ verdict_of number }
     {
         match number {
@@ -88,6 +86,18 @@ pub struct Contents {
     pub rules: usize,
     pub first: [u32; STARTS],
     pub noted: [NotedRule; RULES],
+}
+
+impl Contents {
+    // The rules of chain c.
+    pub fn rules_of(&self, c: usize) -> &[NotedRule]
+        requires shape { Shape self.now }
+        requires known { c < self.now.chains }
+        ensures part { result.now ≡ take (rules_in self.now c) (drop (first_of self.now c) self.now.noted) }
+        ensures count { length result.now ≡ rules_in self.now c }
+    {
+        &self.noted[self.first[c] as usize..self.first[c + 1] as usize]
+    }
 }
 
 // What a slot that is not used notes.

@@ -1,7 +1,7 @@
 // Which chain reaches itself by calls, how calls rank, and whether the entry is too heavy: over a read book's contents.
 #![tactic(auto)]
 
-ghost use Rattle.std.specs.Prelude.{◌≡◌, ◌&&◌, ◌||◌, ℕ, ◌+◌, ◌^◌, ◌<◌, ◌≤◌, length, get_or, take, drop, eqb, ltb};
+ghost use Rattle.std.specs.Prelude.{◌≡◌, ◌&&◌, ◌||◌, ℕ, ◌+◌, ◌^◌, ◌<◌, ◌≤◌, length, get_or, eqb, ltb};
 ghost use Rattle.model.specs.Tree.{Book};
 ghost use Rattle.model.specs.Reader.{Stand, got};
 ghost use Rattle.model.specs.Calls.{LoopFree, lowest_loop, weight, checked};
@@ -15,7 +15,7 @@ ghost use Rattle.calls.specs.Reached.{calls, reach, Reached};
 ghost use Rattle.calls.specs.Weights.{rank_in, capped, AllCapped, Weighed, Weighing, Upto};
 ghost use Rattle.calls.specs.Checked.{loop_of};
 
-use book::{Action, CHAINS, ChainNumber, Contents, NotedRule};
+use book::{Action, CHAINS, ChainNumber, Contents};
 use refusals::{Fault, Refusal};
 
 // What a book's entry may weigh, at most.
@@ -32,11 +32,19 @@ fn with(x: u64, d: usize) -> u64
     x | (1u64 << d)
 }
 
+// Whether d is in the set x.
+fn has(x: u64, d: usize) -> bool
+    requires { d < chains_most }
+    ensures { result ≡ has x d }
+{
+    (x >> d) % 2 == 1
+}
+
 fn holds(sets: &[u64; CHAINS], c: usize, d: usize) -> bool
     requires { (c < chains_most) × (d < chains_most) }
     ensures { result ≡ in_row sets.now c d }
 {
-    (sets[c] >> d) % 2 == 1
+    has(sets[c], d)
 }
 
 fn add(sets: &mut [u64; CHAINS], c: usize, d: usize)
@@ -68,21 +76,12 @@ fn close(sets: &mut [u64; CHAINS], chains: usize)
     }
 }
 
-// The rules of chain c.
-fn rules_of(contents: &Contents, c: usize) -> &[NotedRule]
-    requires { Shape contents.now × (c < contents.now.chains) }
-    ensures part { result.now ≡ take (rules_in contents.now c) (drop (first_of contents.now c) contents.now.noted) }
-    ensures count { length result.now ≡ rules_in contents.now c }
-{
-    &contents.noted[contents.first[c] as usize..contents.first[c + 1] as usize]
-}
-
 // The chains that chain c calls.
 fn add_calls(contents: &Contents, c: usize, sets: &mut [u64; CHAINS])
     requires { Shape contents.now × (c < contents.now.chains) }
     ensures { Holds sets.new (λ x e. in_row sets.old x e || (eqb x c && calls_in contents.now c e)) }
 {
-    for rule in rules_of(contents, c) {
+    for rule in contents.rules_of(c) {
         if let Action::Call(chain) = rule.action {
             add(sets, c, chain.0 as usize);
         }
@@ -114,8 +113,8 @@ fn looping(sets: &[u64; CHAINS]) -> u64
     ensures { (result < 2 ^ chains_most) × ((d : ℕ) → d < chains_most → has result d ≡ in_row sets.now d d) }
 {
     let mut loops = 0;
-    for c in 0..CHAINS {
-        if holds(sets, c, c) {
+    for (c, &row) in sets.iter().enumerate() {
+        if has(row, c) {
             loops = with(loops, c);
         }
     }
@@ -151,7 +150,7 @@ fn weigh(contents: &Contents, c: usize, weights: &[u32; CHAINS]) -> u32
         → result ≡ capped (weigh_at contents.now w (first_of contents.now c) (rules_in contents.now c))) }
 {
     let mut sum = 0;
-    for rule in rules_of(contents, c) {
+    for rule in contents.rules_of(c) {
         let more = match rule.action {
             Action::Call(chain) => weights[chain.0 as usize],
             _ => 0,

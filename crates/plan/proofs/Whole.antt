@@ -2,7 +2,7 @@
 use Rattle.std.specs.Prelude.{Result, Ok, Err}
 use Rattle.std.proofs.Common.{◌≡◌, ◌∙◌, ℕ, zero, suc, ◌≤◌, ◌<◌, List, length, refl, ap, sym}
 use borrow.Author.Tests.{le-leb, lt-leb, eq-eqb, ne_eqb}
-use lib.ListN.{replicate, length-replicate}
+use lib.ListN.{replicate}
 use Rattle.model.specs.Limits.{plan_bytes, ports_most}
 use Rattle.model.specs.Answer as answer
 use Rattle.model.specs.Answer.{fine}
@@ -16,20 +16,12 @@ use Rattle.refusals.specs.declared.Fault.TheVariants.{BadPlan}
 use Rattle.refusals.specs.Refusals.{number_of, refusal_at, told}
 use Rattle.plan.specs.declared.PlanContents.{PlanContents}
 use Rattle.plan.specs.Contents.{slots, lows, highs, numbers, all_ranges, starts, contents_of, plan_answer}
-use Rattle.plan.specs.Written.{standing, Sized, Reads, FieldGot, FieldIs, PortsGot, PortsAre}
+use Rattle.plan.specs.Written.{standing, Reads, FieldGot, FieldIs, PortsGot, PortsAre}
 use Rattle.plan.proofs.Readings.{stop, on, on_field}
 
 -- n ports, all slots 0
 abbrev pub empty : ℕ → PlanContents
 empty n = record { ports = n; number = replicate ports_most 0; first = replicate (suc ports_most) 0; low = replicate slots 0; high = replicate slots 0 }
-
-pub empty_sized : (n : ℕ) → Sized (empty n)
-empty_sized n = record {
-  number = length-replicate {A = ℕ} ports_most 0;
-  first = length-replicate {A = ℕ} (suc ports_most) 0;
-  low = length-replicate {A = ℕ} slots 0;
-  high = length-replicate {A = ℕ} slots 0;
-}
 
 abbrev ended : List ℕ → List Port → Stand → Read (List Port)
 ended s ps st = after (end s st) (λ e st'. got ps st')

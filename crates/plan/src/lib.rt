@@ -7,7 +7,7 @@ ghost use Rattle.model.specs.Book.{within};
 ghost use Rattle.model.specs.Plan.{plan_of, ports_from, ranges_from};
 ghost use Rattle.refusals.specs.Refusals.{told};
 ghost use Rattle.plan.specs.Contents.{plan_answer, slots, asked};
-ghost use Rattle.plan.specs.Written.{standing, one_port, Sized, FieldIs, RangesAre, PortIs, PortsAre};
+ghost use Rattle.plan.specs.Written.{standing, one_port, FieldIs, RangesAre, PortIs, PortsAre};
 
 use numbers::{LARGEST, Number, read_field};
 use refusals::{Fault, Refusal};
@@ -63,7 +63,7 @@ fn read_ranges(
     to: usize,
     contents: &mut PlanContents,
 ) -> Result<usize, Refusal>
-    requires { Sized contents.old × (to + count ≤ slots) }
+    requires { to + count ≤ slots }
     ensures { RangesAre count to contents.old contents.new result (ranges_from count 0 s.now (standing at)) }
 {
     let mut next = at;
@@ -87,7 +87,7 @@ fn read_port(
     to: usize,
     contents: &mut PlanContents,
 ) -> Result<PortRead, Refusal>
-    requires { Sized contents.old × (to + ranges_most ≤ slots) }
+    requires { to + ranges_most ≤ slots }
     ensures { PortIs to contents.old contents.new result (one_port least s.now (standing at)) }
 {
     let number = plan_field(s, at, least, PORT_HIGHEST)?;
@@ -102,7 +102,7 @@ fn read_port(
 
 // As many ports as the contents say; answers the place after them.
 fn read_ports(s: &[u8], at: usize, contents: &mut PlanContents) -> Result<usize, Refusal>
-    requires { Sized contents.old × (contents.old.ports ≤ ports_most) }
+    requires { contents.old.ports ≤ ports_most }
     ensures { PortsAre contents.old.ports 0 0 contents.old contents.new result (ports_from contents.old.ports 0 s.now (standing at)) }
 {
     let mut next = at;

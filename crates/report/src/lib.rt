@@ -1,7 +1,7 @@
 // The report on a book and a plan, byte by byte.
 #![tactic(auto)]
 
-ghost use Rattle.std.specs.Prelude.{◌≡◌, ◌+◌, ◌*◌, ◌≤◌, ◌<◌, length};
+ghost use Rattle.std.specs.Prelude.{◌≡◌, ◌+◌, ◌*◌, ◌≤◌, ◌<◌, [], length};
 ghost use Rattle.arrayvec.specs.ArrayVec.{array_vec_len};
 ghost use Rattle.model.specs.Limits.{ports_most};
 ghost use Rattle.model.specs.Report.{report as reportText};
@@ -71,16 +71,15 @@ fn put_body(book: &[u8], plan: &[u8], words: &mut [u32], text: &mut Text) -> Res
     Ok(())
 }
 
-fn write_report(book: &[u8], plan: &[u8], words: &mut [u32]) -> Text
-    ensures text { result.items ≡ reportText book.now plan.now (length words.old) }
+fn write_report(book: &[u8], plan: &[u8], words: &mut [u32], text: &mut Text)
+    requires { text.old.items ≡ [] }
+    ensures text { text.new.items ≡ reportText book.now plan.now (length words.old) }
     ensures lent { words.new ≡ words_after (report_entry book.now plan.now (length words.old)) book.now words.old }
 {
-    let mut text = Text::new();
-    put_text(&mut text, b"spoof report 1\n");
-    if let Err(refusal) = put_body(book, plan, words, &mut text) {
-        put_refusal(&mut text, refusal);
+    put_text(text, b"spoof report 1\n");
+    if let Err(refusal) = put_body(book, plan, words, text) {
+        put_refusal(text, refusal);
     }
-    text
 }
 
 // THE REPORT: how many bytes it has. A text that is too short for it is left as it was.
@@ -94,7 +93,8 @@ pub fn report(
     ensures text { text.new ≡ text_after (reportText book.now plan.now (length words.old)) text.old }
     ensures lent { words.new ≡ words_after (report_entry book.now plan.now (length words.old)) book.now words.old }
 {
-    let written = write_report(book, plan, words);
+    let mut written = Text::new();
+    write_report(book, plan, words, &mut written);
     let n = written.len();
     if text.len() < n {
         return Err(Fault::TextTooShort.at(n));

@@ -4,7 +4,7 @@
 ghost use Rattle.sweep.specs.Sweep.{Kept};
 ghost use Rattle.review.specs.Taken.{HasRule, TakesRule};
 
-use book::RuleNumber;
+use book::{RuleNumber, Verdict};
 use room::Need;
 use suspects::{Full, Suspects};
 use sweep::{drop_suspects, first_passing};
@@ -45,10 +45,8 @@ pub enum Reviewed {
     Refused(RuleNumber, u32),
 }
 
-// The first word of a rule of the list: whether it accepts or drops.
-const ACCEPT: u32 = 0;
-
-const DROP: u32 = 1;
+// The words of a rule of the list before its conditions: its action, its number, and how many conditions it has.
+const HEAD: usize = 3;
 
 // One rule of the list: it refuses, with its number and the lowest suspect that it may accept, or leaves suspects to the rules behind.
 // They are lent and not handed over: there are so many slots that to copy them at each rule would be most of the work.
@@ -64,8 +62,8 @@ pub fn take_rule(
     ensures { TakesRule s.now list.now at port suspects.old result suspects.new }
 {
     let count = list[at + 2] as usize;
-    let conditions = &list[at + 3..at + 3 + count];
-    if list[at] == ACCEPT {
+    let conditions = &list[at + HEAD..at + HEAD + count];
+    if list[at] == Verdict::Accept.number() {
         let source = first_passing(s, conditions, port, suspects);
         return Ok(source.map(|source| (RuleNumber(list[at + 1]), source)));
     }

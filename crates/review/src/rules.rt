@@ -3,8 +3,7 @@ ghost use Rattle.std.specs.Prelude.{◌≡◌};
 ghost use Rattle.model.specs.Slices.{match_at, conditions_in, rule_at};
 ghost use Rattle.review.specs.Known.{HasBook, OfBook, found};
 
-use super::DROP;
-use book::Contents;
+use book::{Contents, Verdict};
 
 // Whether a rule's own expression starts at a place of the book. These places rise with the rules' numbers, so they are searched by halves.
 fn is_rule_expression(contents: &Contents, at: u32) -> bool
@@ -39,5 +38,5 @@ pub fn is_rule(contents: &Contents, list: &[u32], place: usize) -> bool
     let Some(conditions) = rest.get(..*count as usize) else {
         return false;
     };
-    *action <= DROP && are_conditions(contents, conditions)
+    *action <= Verdict::Drop.number() && are_conditions(contents, conditions)
 }

@@ -10,7 +10,7 @@ ghost use Rattle.review.specs.States.{phase_of, state_of, SteppedBy};
 ghost use Rattle.review.specs.Taken.{RuleAt, HasRule};
 
 use super::rules::is_rule;
-use super::{Phase, State, take_rule};
+use super::{HEAD, Phase, State, take_rule};
 use checking::check;
 use refusals::{Fault, Refusal};
 use suspects::Full;
@@ -37,7 +37,7 @@ fn step_rule(book: &[u8], list: &[u32], state: &mut State) -> Result<(), Refusal
         Err(Full) => return Err(Fault::TooManyRanges.at(place)),
         Ok(Some((rule, source))) => state.phase = Phase::Refused(rule, source),
         Ok(None) => {
-            state.place = place + 3 + list[place + 2] as usize;
+            state.place = place + HEAD + list[place + 2] as usize;
             state.phase = phase_at(state.place, list.len());
         }
     }

@@ -5,7 +5,7 @@ ghost use Rattle.model.specs.Entries.{list_in, suspects_in, review_entry, words_
 ghost use Rattle.review.specs.Reviews.{Reviewable, phase_told, review_told};
 
 use super::beginning::start;
-use super::{Reviewed, take_rule};
+use super::{HEAD, Reviewed, take_rule};
 use refusals::Refusal;
 use suspects::{Full, Suspects};
 
@@ -18,7 +18,7 @@ pub fn review_list(book: &[u8], list: &[u32], port: u32, mut suspects: Suspects)
     let mut at = 0;
     while at < list.len() {
         match take_rule(book, list, at, port, &mut suspects) {
-            Ok(None) => at += 3 + list[at + 2] as usize,
+            Ok(None) => at += HEAD + list[at + 2] as usize,
             Ok(Some((rule, source))) => return Reviewed::Refused(rule, source),
             Err(Full) => unreachable!(),
         }

@@ -5,7 +5,7 @@ use native.Mathlib.Decide.{ℕ_discrete}
 use mathlib.Core.Path.{◌≡◌, refl, sym, ap, ◌∙◌}
 use mathlib.Core.Logic.{◌≢◌}
 use mathlib.Core.List.{List}
-use lib.ListN.{get_or, set, replicate, length-set, length-replicate}
+use lib.ListN.{length, get_or, set, replicate}
 use lib.Seq.{get_or-set_same, get_or-set_other}
 use Rattle.model.specs.Limits.{chains_most}
 use Rattle.book.specs.Contents.{Shape, first_of, rules_in}
@@ -22,22 +22,21 @@ blanks_at (suc n) zero = refl
 blanks_at (suc n) (suc c) = blanks_at n c
 
 pub none_kept : Kept (replicate chains_most nothing)
-none_kept = record { size = length-replicate chains_most nothing; small = λ c. rw (blanks_at chains_most c) none_small }
+none_kept = record { small = λ c. rw (blanks_at chains_most c) none_small }
 
 -- a need is stored
-module _ (needs : List Need) (all : Kept needs) (c : ℕ) (n : Need) (lt : c < chains_most) where
+module _ (needs : List Need) (size : length needs ≡ chains_most) (c : ℕ) (n : Need) (lt : c < chains_most) where
   abbrev pub stored : ℕ → Need
   stored = kept (set needs c n)
 
   pub stored_there : stored c ≡ n
-  stored_there = get_or-set_same needs c n nothing (rw all.size lt)
+  stored_there = get_or-set_same needs c n nothing (rw size lt)
 
   pub stored_other : (x : ℕ) → x ≢ c → stored x ≡ kept needs x
   stored_other x ne = get_or-set_other needs c x n nothing ne
 
-  pub kept_stored : Small n → Kept (set needs c n)
-  kept_stored s = record {
-    size = length-set needs c n ∙ all.size;
+  pub kept_stored : Kept needs → Small n → Kept (set needs c n)
+  kept_stored all s = record {
     small = λ x. elim (ℕ_discrete x c) [ yes e ↦ rw (e, stored_there) s | no ne ↦ rw (stored_other x ne) (all.small x) ];
   }
 

@@ -1,6 +1,6 @@
 -- Needs up to the greatest that a book may have: above it, that one stands for all.
-use Rattle.std.specs.Prelude.{ℕ, ◌+◌, ◌*◌, ◌≤◌, ◌<◌, min, ◌≡◌, List, length, get_or}
-use Rattle.model.specs.Limits.{chains_most, weight_most}
+use Rattle.std.specs.Prelude.{ℕ, ◌+◌, ◌*◌, ◌≤◌, ◌<◌, min, ◌≡◌, List, get_or}
+use Rattle.model.specs.Limits.{weight_most}
 use Rattle.book.specs.Contents.{first_of, rules_in}
 use Rattle.book.specs.declared.Contents.{Contents}
 use Rattle.calls.specs.Actions.{actions_at}
@@ -27,7 +27,6 @@ abbrev pub kept : List Need → ℕ → Need
 kept needs c = get_or needs c nothing
 
 pub record Kept (needs : List Need) : Type 0 where
-  pub size : length needs ≡ chains_most
   pub small : (c : ℕ) → Small (kept needs c)
 
 -- of the chains that c calls g has what f says

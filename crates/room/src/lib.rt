@@ -62,7 +62,7 @@ fn count_chain(contents: &Contents, c: usize, needs: &[Need; CHAINS]) -> Need
     // the conditions that a rule has of its own chain: the returns before it, and its own match
     let mut held = 1;
     let mut need = NOTHING;
-    for rule in &contents.noted[contents.first[c] as usize..contents.first[c + 1] as usize] {
+    for rule in contents.rules_of(c) {
         let own = put_by(rule.action, needs);
         need.rules = (need.rules + own.rules).min(MOST);
         need.words = (need.words + own.words + held * own.rules).min(MOST);

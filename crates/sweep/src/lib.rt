@@ -107,8 +107,9 @@ pub fn drop_suspects(
         port,
     };
     let mut left = Suspects::empty();
-    for i in 0..suspects.count {
-        let (low, high) = (suspects.low[i], suspects.high[i]);
+    let (lows, _) = suspects.low.split_at(suspects.count);
+    let (highs, _) = suspects.high.split_at(suspects.count);
+    for (&low, &high) in lows.iter().zip(highs) {
         rule.keep_range(&mut left, low, high)?;
     }
     Ok(left)
@@ -125,8 +126,9 @@ pub fn first_passing(s: &[u8], conditions: &[u32], port: u32, suspects: &Suspect
         conditions,
         port,
     };
-    for i in 0..suspects.count {
-        let (low, high) = (suspects.low[i], suspects.high[i]);
+    let (lows, _) = suspects.low.split_at(suspects.count);
+    let (highs, _) = suspects.high.split_at(suspects.count);
+    for (&low, &high) in lows.iter().zip(highs) {
         if let Some(source) = rule.first_in(low, high) {
             return Some(source);
         }

@@ -1,5 +1,5 @@
 -- The verdicts of the chains and of the list of a book that was read, from what walking and listing it say. Assumes nothing.
-use Rattle.std.proofs.Common.{ℕ, ◌≤◌, Bool, List, ◌≡◌, sym, ◌∙◌, ap, subst, arith, length, take, drop, length-append}
+use Rattle.std.proofs.Common.{ℕ, zero, suc, ◌≤◌, Bool, List, ◌≡◌, refl, sym, ◌∙◌, ap, subst, arith, length, take, drop, length-append}
 use Rattle.std.specs.Prelude.{Ok, Err}
 use Rattle.std.proofs.lemmas.List.{take_at}
 use borrow.Author.Tests.{le-leb}
@@ -15,7 +15,7 @@ use Rattle.model.proofs.VerdictSmall.{list_small}
 use Rattle.refusals.specs.declared.Refusal.{Refusal}
 use Rattle.refusals.specs.Refusals.{number_of}
 use Rattle.book.specs.declared.Verdict.{Verdict}
-use Rattle.book.specs.Contents.{verdict_number, Charted}
+use Rattle.book.specs.Contents.{verdict_number, verdict_of, Charted}
 use Rattle.checking.specs.declared.Checked.{Checked}
 use Rattle.checking.specs.Checks.{Ready, CheckedFrom}
 use Rattle.checking.proofs.Uses.{same_book, readable_charted, readable_policy}
@@ -43,6 +43,12 @@ module _ {s : List ℕ} {k : Checked} (h : CheckedFrom s k) where
   pub can_list : Ready k
   can_list = record { bytes = s; from = h }
 
+-- the numbers of the verdicts are 0 and 1
+number_back : (n : ℕ) → n ≤ 1 → verdict_number (verdict_of n) ≡ n
+number_back zero h = refl
+number_back (suc zero) h = refl
+number_back (suc (suc n)) h = absurd (omega arith)
+
 -- the list found room, and stands in the first words
 module _ {b : Book} {before : List ℕ} {n : _} {after : List ℕ} (l : ListedIn b before n after) where
   pub listed_room : n.words ≤ length after
@@ -64,13 +70,13 @@ module _ {b : Book} {before : List ℕ} {n : _} {after : List ℕ} (l : ListedIn
       judged = subst (λ ws. ListSays s answers ws p told tactic v) listed_words say (list_of b) (lists_of s b (read_stands s b e))
 
       -- every action of a list is 0 or 1, and so is what it comes to
-      pub judged_small : v ≤ 1
+      judged_small : v ≤ 1
       judged_small = subst (λ v. v ≤ 1) (sym judged) (list_small s b e (tactic_of tactic) (value (leaves_of told answers (packet_of p))))
 
-      pub decides_list : (r : Verdict) → verdict_number r ≡ v → Decides told tactic answers p b before (Ok r) after
+      pub decides_list : (r : Verdict) → r ≡ verdict_of v → Decides told tactic answers p b before (Ok r) after
       decides_list r is =
           let fits = le-leb (length (words_of (list_of b))) (length before) l.fits in
-          record { answer = rw fits (ap (λ v. fine v) (is ∙ judged)); lent = rw fits l.lent }
+          record { answer = rw fits (ap (λ v. fine v) (ap verdict_number is ∙ number_back v judged_small ∙ judged)); lent = rw fits l.lent }
 
 pub decides_short : (b : Book) (before after : List ℕ) (e : Refusal) → (room (length before) b ≡ refused (number_of e.fault) e.place) × (after ≡ before)
     → (told : Bool) (tactic : Tactic) (answers : List ℕ) (p : Packet) → Decides told tactic answers p b before (Err e) after

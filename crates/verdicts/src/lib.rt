@@ -1,14 +1,13 @@
 // The verdicts, as entries: the book is read first, so that every refusal comes in its order.
 #![tactic(auto)]
 
-ghost use Rattle.std.specs.Prelude.{◌≡◌, ◌≤◌, List, ℕ, length};
+ghost use Rattle.std.specs.Prelude.{◌≡◌, List, ℕ, length};
 ghost use Rattle.model.specs.Answer.{fine};
 ghost use Rattle.model.specs.Tree.{Book};
 ghost use Rattle.model.specs.Limits.{answer_bytes};
 ghost use Rattle.model.specs.Calls.{readable};
 ghost use Rattle.model.specs.Entries.{answers_read, chain_entry, list_entry, closure_entry, words_after};
 ghost use Rattle.refusals.specs.Refusals.{told_as};
-ghost use Rattle.book.specs.Contents.{verdict_number};
 ghost use Rattle.checking.specs.Checks.{Ready, CheckedFrom};
 ghost use Rattle.walks.specs.Packets.{packet_of, tactic_of};
 ghost use Rattle.verdicts.specs.Verdicts.{verdict_told, Decides};
@@ -31,17 +30,6 @@ fn check_answers(answers: &[u8]) -> Result<(), Refusal>
     Ok(())
 }
 
-// The verdict of an action in a list's words.
-fn named(action: u32) -> Verdict
-    requires { action ≤ 1 }
-    ensures { verdict_number result ≡ action }
-{
-    match action {
-        0 => Verdict::Accept,
-        _ => Verdict::Drop,
-    }
-}
-
 // By the list of a book that was read, once it is unfolded. The exact verdict is told the answers, a closure is not.
 fn by_list(
     book: &[u8],
@@ -57,7 +45,7 @@ fn by_list(
 {
     let need = list_book(checked, words)?;
     let action = walks::list_verdict(book, answers, &words[..need.words], p, told, tactic);
-    Ok(named(action))
+    Ok(Verdict::of(action))
 }
 
 // THE CHAIN VERDICT: 1 to 10, then 16.

@@ -38,11 +38,6 @@ impl Packet {
     }
 }
 
-// The actions, as numbers of a list's words.
-const ACCEPT: u32 = 0;
-
-const DROP: u32 = 1;
-
 // What a closure does with a rule in doubt: upper takes an accept and skips a drop, and lower the reverse.
 #[derive(Clone, Copy, PartialEq, Eq)]
 pub enum Tactic {
@@ -58,8 +53,8 @@ impl Tactic {
         match value {
             Truth::No => false,
             Truth::Unknown => match self {
-                Tactic::Upper => action == ACCEPT,
-                Tactic::Lower => action == DROP,
+                Tactic::Upper => action == Verdict::Accept.number(),
+                Tactic::Lower => action == Verdict::Drop.number(),
             },
             Truth::Yes => true,
         }
@@ -178,5 +173,5 @@ pub fn list_verdict(
         }
         rest = after;
     }
-    DROP
+    Verdict::Drop.number()
 }

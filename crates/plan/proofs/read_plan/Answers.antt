@@ -4,7 +4,7 @@ use Rattle.model.specs.Limits.{ports_most}
 use Rattle.model.specs.Book.{within}
 use Rattle.plan.specs.Written.{standing}
 use Rattle.plan.proofs.Readings.{field_limits}
-use Rattle.plan.proofs.Whole.{empty_sized, plan_long, edition_bad, many_bad, body_bad, extra, fine_plan}
+use Rattle.plan.proofs.Whole.{plan_long, edition_bad, many_bad, body_bad, extra, fine_plan}
 use Rattle.plan.proofs.read_plan.Goals as goal
 
 pub returns-then-s-gt-BYTES : goal.returns-then-s-gt-BYTES
@@ -22,7 +22,7 @@ returns-in_err-ports c =
 
 pub read_ports-requires : goal.read_ports-requires
 read_ports-requires c =
-    (empty_sized _, (field_limits 0 ports_most c.in_ok-ports.ports (within 0 ports_most c.args.s.now (standing c.in_ok-edition.edition.next)) c.in_ok-ports.ensures).1)
+    (field_limits 0 ports_most c.in_ok-ports.ports (within 0 ports_most c.args.s.now (standing c.in_ok-edition.edition.next)) c.in_ok-ports.ensures).1
 
 pub returns-in_err-end : goal.returns-in_err-end
 returns-in_err-end c =

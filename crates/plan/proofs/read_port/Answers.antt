@@ -11,7 +11,7 @@ use Rattle.plan.proofs.read_port.Goals as goal
 pub read_ranges-requires : goal.read_ranges-requires
 read_ranges-requires c =
     let few = field_limits 0 ranges_most c.in_ok-count.count (within 0 ranges_most c.args.s.now (standing c.in_ok-number.number.next)) c.in_ok-count.ensures in
-    (c.requires.0, omega (arith, few.1, c.requires.1))
+    omega (arith, few.1, c.requires)
 
 pub returns-in_err-number : goal.returns-in_err-number
 returns-in_err-number c =

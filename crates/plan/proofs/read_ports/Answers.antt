@@ -1,21 +1,23 @@
 -- `plan::read_ports` meets its contract. The loop's invariant: to write the ports that are left is to write all. Assumes nothing.
 use Rattle.std.specs.Prelude.{Ok, Err}
-use Rattle.std.proofs.Common.{◌≡◌, suc, ◌+◌, ◌-◌, ◌≤◌, ◌<◌, length, ◌∙◌, refl, arith}
+use Rattle.std.proofs.Common.{◌≡◌, suc, ◌+◌, ◌-◌, ◌≤◌, ◌<◌, length, ◌∙◌, refl, arith, rules}
 use native.Mathlib.Nat.{sub-zero}
 use Rattle.std.proofs.lemmas.Result.{err_from_is_err_and}
 use lib.ListN.{length-set}
 use Rattle.model.specs.Limits.{ports_most, ranges_most}
 use Rattle.plan.specs.Contents.{slots}
-use Rattle.plan.specs.Written.{standing, one_port}
+use Rattle.plan.specs.Written.{standing, one_port, Sized}
 use Rattle.plan.proofs.Room.{room, more_room}
 use Rattle.plan.proofs.Ports.{ended, port_leaves, ports_none, ports_stop, ports_more}
 use Rattle.plan.proofs.read_ports.Goals as goal
 
 pub loop-i-init : goal.loop-i-init
-loop-i-init c = record { sized = c.requires.0; ports = refl; room = omega arith; rest = λ r k h. rw sub-zero at h }
+loop-i-init c =
+    let sized : Sized c.args.contents.now = record { number = search rules; first = search rules; low = search rules; high = search rules } in
+    record { sized = sized; ports = refl; room = omega arith; rest = λ r k h. rw sub-zero at h }
 
 pub read_port-requires : goal.read_port-requires
-read_port-requires c = (c.loop-i.invariant.sized, room ranges_most ports_most c.loop-i.i c.loop-i.to (omega arith) c.loop-i.invariant.room)
+read_port-requires c = room ranges_most ports_most c.loop-i.i c.loop-i.to (omega arith) c.loop-i.invariant.room
 
 pub returns-in_err-port : goal.returns-in_err-port
 returns-in_err-port c =

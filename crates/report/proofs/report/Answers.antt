@@ -5,17 +5,17 @@ use Rattle.report.proofs.report.Goals as goal
 
 pub returns-then-text-n-clause-answer : goal.returns-then-text-n-clause-answer
 returns-then-text-n-clause-answer c =
-    rw c.at.ensures (short _ _ (c.len-n.ensures.value ∙ ap length c.write_report-written.ensures.text) c.args.text.now c.if-text-n.true).0
+    rw c.at.ensures (short _ _ (c.len-n.ensures.value ∙ ap length c.write_report.ensures.text) c.args.text.now c.if-text-n.true).0
 
 pub returns-then-text-n-clause-text : goal.returns-then-text-n-clause-text
 returns-then-text-n-clause-text c =
-    (short _ _ (c.len-n.ensures.value ∙ ap length c.write_report-written.ensures.text) c.args.text.now c.if-text-n.true).1
+    (short _ _ (c.len-n.ensures.value ∙ ap length c.write_report.ensures.text) c.args.text.now c.if-text-n.true).1
 
 pub returns-clause-answer : goal.returns-clause-answer
 returns-clause-answer c =
-    (handed _ _ (c.len-n.ensures.value ∙ ap length c.write_report-written.ensures.text) c.args.text.now c.if-text-n.false).0
+    (handed _ _ (c.len-n.ensures.value ∙ ap length c.write_report.ensures.text) c.args.text.now c.if-text-n.false).0
 
 pub returns-clause-text : goal.returns-clause-text
 returns-clause-text c =
-    rw (c.copy_from_slice.ensures.after, c.as_slice.ensures.value, c.write_report-written.ensures.text)
-    (handed _ _ (c.len-n.ensures.value ∙ ap length c.write_report-written.ensures.text) c.args.text.now c.if-text-n.false).1
+    rw (c.copy_from_slice.ensures.after, c.as_slice.ensures.value, c.write_report.ensures.text)
+    (handed _ _ (c.len-n.ensures.value ∙ ap length c.write_report.ensures.text) c.args.text.now c.if-text-n.false).1

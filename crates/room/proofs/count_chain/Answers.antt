@@ -1,9 +1,8 @@
 -- What was counted, with the rules from here on, comes to the need of c, up to the most.
 use Prim.Native.Nat.{suc, ◌+◌, ◌≤◌, ◌<◌}
 use native.Mathlib.Omega.{arith}
-use lib.ListN.{length, get_or, take, drop}
-use mathlib.Core.Path.{◌≡◌, refl, sym, ap, ◌∙◌}
-use Rattle.std.proofs.lemmas.Grind.{common_steps}
+use lib.ListN.{get_or}
+use mathlib.Core.Path.{◌≡◌, sym, ap, ◌∙◌}
 use Rattle.book.specs.Contents.{said, no_note, action_at, first_of, rules_in}
 use Rattle.std.proofs.Common.{rules}
 use Rattle.book.specs.declared.Action.TheVariants.{Return}
@@ -19,8 +18,8 @@ use Rattle.room.proofs.count_chain.Goals.{then-eq, else-eq}
 pub put_by-own-requires : goal.put_by-own-requires
 put_by-own-requires c = λ d q.
     let k = c.args.contents.now in
-    let all : length (take (rules_in k c.args.c) (drop (first_of k c.args.c) k.noted)) ≡ rules_in k c.args.c = grind (arith, common_steps) in
-    omega (arith, part_calls k c.requires.0 c.args.c c.loop-rule.rule-index c.requires.1 _ refl (omega arith) d q, c.requires.0.few)
+    let part = c.rules_of-rule-items.ensures in
+    omega (arith, part_calls k c.requires.0 c.args.c c.loop-rule.rule-index c.requires.1 _ part.part (omega (arith, part.count)) d q, c.requires.0.few)
 
 pub loop-rule-preserved : goal.loop-rule-preserved
 loop-rule-preserved c =
@@ -28,10 +27,10 @@ loop-rule-preserved c =
     let l = c.loop-rule in
     let held = c.if-eq.held in
     let i = first_of k c.args.c + l.rule-index in
-    let all : length (take (rules_in k c.args.c) (drop (first_of k c.args.c) k.noted)) ≡ rules_in k c.args.c = grind (arith, common_steps) in
-    let lt : l.rule-index < rules_in k c.args.c = omega arith in
-    let does = (get_or (take (rules_in k c.args.c) (drop (first_of k c.args.c) k.noted)) l.rule-index no_note).action in
-    let here = part_action k c.args.c l.rule-index _ refl lt in
+    let part = c.rules_of-rule-items.ensures in
+    let lt : l.rule-index < rules_in k c.args.c = omega (arith, part.count) in
+    let does = (get_or c.rules_of-rule-items.result.now l.rule-index no_note).action in
+    let here = part_action k c.args.c l.rule-index _ part.part lt in
     let after : Need = record { rules = c.min.result; words = c.min-in-loop-rule.result } in
     let next : (held ≡ held_after l.held (action_at k i)) × (1 ≤ held) × (held ≤ suc (l.rule-index + 1)) =
     elim c.if-eq.branch [
@@ -46,7 +45,7 @@ loop-rule-preserved c =
       next.2,
       record { rules = omega (arith, c.min.ensures); words = omega (arith, c.min-in-loop-rule.ensures) },
       λ f known.
-          counted_rule k f (first_of k (c.args.c + 1)) i _ l.held (omega arith) (omega arith) l.invariant.0 (kept c.args.needs.now) l.need c.put_by-own.result after
+          counted_rule k f (first_of k (c.args.c + 1)) i _ l.held (omega arith) (omega (arith, lt)) l.invariant.0 (kept c.args.needs.now) l.need c.put_by-own.result after
           (c.put_by-own.ensures ∙ ap (put (kept c.args.needs.now)) here) (λ d q. known i d (record { from = omega arith; to = omega arith; calls = q }))
           c.min.ensures c.min-in-loop-rule.ensures held next.0
           ∙ l.invariant.3 f known,
@@ -56,7 +55,7 @@ pub returns : goal.returns
 returns c =
     let k = c.args.contents.now in
     let l = c.loop-rule in
-    let all : length (take (rules_in k c.args.c) (drop (first_of k c.args.c) k.noted)) ≡ rules_in k c.args.c = grind (arith, common_steps) in (
+    let part = c.rules_of-rule-items.ensures in (
       l.invariant.2,
-      λ f known. none_left k f (first_of k (c.args.c + 1)) l.held (first_of k c.args.c + l.rule-index) (omega arith) l.need l.invariant.2 ∙ l.invariant.3 f known,
+      λ f known. none_left k f (first_of k (c.args.c + 1)) l.held (first_of k c.args.c + l.rule-index) (omega (arith, part.count)) l.need l.invariant.2 ∙ l.invariant.3 f known,
     )

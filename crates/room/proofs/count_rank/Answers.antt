@@ -1,5 +1,8 @@
 -- The lower ranks have their needs, and of this rank the chains below c.
 use Prim.Native.Nat.{◌<◌}
+use mathlib.Core.Path.{◌≡◌}
+use lib.ListN.{length}
+use Rattle.std.proofs.Common.{rules}
 use native.Mathlib.Omega.{arith}
 use Rattle.model.specs.Limits.{chains_most}
 use Rattle.calls.specs.Weights.{rank_in}
@@ -15,18 +18,19 @@ loop-c-preserved c =
     let rank = rank_in s.ranks.now in
     let old = c.loop-c.needs in
     let all = c.loop-c.invariant.0 in
+    let size : length old ≡ chains_most = search rules in
     let lt : c.loop-c.c < k.chains = omega arith in
     let room : c.loop-c.c < chains_most = omega (arith, c.requires.0.few) in
     elim c.if-ranks-c.branch [
       | then-ranks-c x ↦
           let need = x.count_chain in
           rw x.needs-is (
-            kept_stored old all c.loop-c.c need.result room need.ensures.0,
+            kept_stored old size c.loop-c.c need.result room all need.ensures.0,
             λ f by sh h.
                 let lev = c.loop-c.invariant.1 f by sh h in
                 level_counted k s.level sh rank f by (kept old) c.loop-c.c lt lev x.if-ranks-c.true need.result
                 (need.ensures.1 f (calls_known k s.level sh rank f by (kept old) c.loop-c.c lt lev x.if-ranks-c.true))
-                (stored old all c.loop-c.c need.result room) (stored_there old all c.loop-c.c need.result room) (stored_other old all c.loop-c.c need.result room),
+                (stored old size c.loop-c.c need.result room) (stored_there old size c.loop-c.c need.result room) (stored_other old size c.loop-c.c need.result room),
           )
       | else-ranks-c x ↦
           rw x.needs-is (all, λ f by sh h. level_skipped k s.level sh rank f by (kept old) c.loop-c.c lt (c.loop-c.invariant.1 f by sh h) x.if-ranks-c.false)

@@ -3,7 +3,7 @@ use Rattle.std.proofs.Common.{sym}
 use Rattle.std.proofs.lemmas.List.{length-take-le}
 use Rattle.std.proofs.lemmas.Result.{err_from_is_err_and}
 use Rattle.listing.proofs.Laws.{listed_ok, listed_err}
-use Rattle.verdicts.proofs.Laws.{can_list, listed_room, can_judge, judged_small, decides_list, decides_short}
+use Rattle.verdicts.proofs.Laws.{can_list, listed_room, can_judge, decides_list, decides_short}
 use Rattle.verdicts.proofs.by_list.Goals as goal
 
 pub list_book-requires : goal.list_book-requires
@@ -28,14 +28,8 @@ pub list_verdict-action-requires : goal.list_verdict-action-requires
 list_verdict-action-requires c =
     let o = c.requires in can_judge (listed_ok o.book _ _ _ (c.list_book.ensures _ o.book o.read o) _ c.in_ok-need.was) _ o.read
 
-pub named-requires : goal.named-requires
-named-requires c =
-    let a = c.args in let o = c.requires in
-    judged_small (listed_ok o.book _ _ _ (c.list_book.ensures _ o.book o.read o) _ c.in_ok-need.was) _ o.read a.told a.tactic a.answers.now a.p
-    _ c.list_verdict-action.ensures
-
 pub returns : goal.returns
 returns c = λ b e.
     let a = c.args in
     decides_list (listed_ok b _ _ _ (c.list_book.ensures _ b e c.requires) _ c.in_ok-need.was) _ e a.told a.tactic a.answers.now a.p
-    _ c.list_verdict-action.ensures _ c.named.ensures
+    _ c.list_verdict-action.ensures _ c.of.ensures

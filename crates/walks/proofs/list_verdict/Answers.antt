@@ -36,4 +36,4 @@ loop-rest-preserved c = λ list l.
     c.takes.result c.takes.ensures c.if-takes.false)
 
 pub returns : goal.returns
-returns c = λ list l. rest_none _ _ _ _ list c.in_default.len_below (c.loop-rest.invariant list l)
+returns c = λ list l. rw c.number.ensures (rest_none _ _ _ _ list c.in_default.len_below (c.loop-rest.invariant list l))
