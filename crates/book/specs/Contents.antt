@@ -1,6 +1,7 @@
 -- A book's contents as the code holds them, and what walking over them relies on.
 use Rattle.std.specs.Prelude.{ℕ, zero, suc, ◌+◌, ◌-◌, ◌≤◌, ◌<◌, ◌≡◌, List, [], ◌∷◌, ◌++◌, map, replicate, length, get_or}
 use Rattle.model.specs.Limits.{chains_most, rules_most}
+use Rattle.model.specs.Reader.{choose}
 use Rattle.model.specs.Calls.{chain_of}
 use Rattle.model.specs.Tree as tree
 use Rattle.model.specs.Tree.{Rule, Book, place_of, rules_of}
@@ -35,6 +36,29 @@ held log = Log
 held empty = Empty
 held return = Return
 held (call c) = Call (chain_number c)
+
+-- document 01's numbers of the actions, and the called chain
+abbrev pub action_number : tree.Action → ℕ
+action_number accept = 0
+action_number drop = 1
+action_number reject = 2
+action_number log = 3
+action_number empty = 4
+action_number return = 5
+action_number (call c) = 6
+
+abbrev pub target_number : tree.Action → ℕ
+target_number accept = 0
+target_number drop = 0
+target_number reject = 0
+target_number log = 0
+target_number empty = 0
+target_number return = 0
+target_number (call c) = c
+
+-- the action that two numbers say; 6 is a call of the target
+abbrev pub action_of : ℕ → ℕ → tree.Action
+action_of a t = choose a (accept ∷ drop ∷ reject ∷ log ∷ empty ∷ return ∷ call t ∷ []) accept
 
 -- a policy or a verdict in document 01's numbers, and back: 0 accept, 1 drop
 abbrev pub verdict_number : Verdict → ℕ

@@ -5,7 +5,7 @@ ghost use Rattle.std.specs.Prelude.{◌≡◌, ◌<◌, length, take, drop};
 ghost use Rattle.model.specs.Book.{book_of};
 ghost use Rattle.refusals.specs.Refusals.{told};
 ghost use Rattle.book.specs.Told.{book_answer};
-ghost use Rattle.book.specs.Contents.{verdict_number, verdict_of, first_of, rules_in, Shape};
+ghost use Rattle.book.specs.Contents.{said, action_number, target_number, action_of, verdict_number, verdict_of, first_of, rules_in, Shape};
 
 use chains::read_chains;
 use numbers::read_field;
@@ -40,6 +40,48 @@ pub enum Action {
     Empty,
     Return,
     Call(ChainNumber),
+}
+
+impl Action {
+    // The action that two numbers say: 6 is a call of the target, and what names no action is an accept.
+    pub fn of(number: u32, target: u32) -> Action
+        ensures { said result ≡ action_of number target }
+    {
+        match number {
+            1 => Action::Drop,
+            2 => Action::Reject,
+            3 => Action::Log,
+            4 => Action::Empty,
+            5 => Action::Return,
+            6 => Action::Call(ChainNumber(target)),
+            _ => Action::Accept,
+        }
+    }
+
+    // Document 01's number of it.
+    pub fn number(self) -> u32
+        ensures { result ≡ action_number (said self) }
+    {
+        match self {
+            Action::Accept => 0,
+            Action::Drop => 1,
+            Action::Reject => 2,
+            Action::Log => 3,
+            Action::Empty => 4,
+            Action::Return => 5,
+            Action::Call(_) => 6,
+        }
+    }
+
+    // The number of the chain that it calls; 0 where it calls none.
+    pub fn target(self) -> u32
+        ensures { result ≡ target_number (said self) }
+    {
+        match self {
+            Action::Call(chain) => chain.0,
+            _ => 0,
+        }
+    }
 }
 
 // What a policy says, and what every walk comes to in the end. The discriminants are document 01's numbers.
@@ -79,7 +121,7 @@ pub struct NotedRule {
 
 // What everything above needs of a book, so that it is never scanned again. Chain c has the rules from first[c] up to, not with,
 // first[c + 1]. Slots that are not used are 0: an accept at place 0.
-#[derive(Drop)]
+#[derive(Clone, Copy)]
 pub struct Contents {
     pub policy: Verdict,
     pub chains: usize,

@@ -31,7 +31,7 @@ const RANGES_MOST: u64 = 64;
 
 // A plan's ports in order: the number of each, and its ranges, which are those from first[i] up to, not with, first[i + 1]. Slots that
 // are not used are 0. The ends are two arrays, as what walks over the addresses outside takes them.
-#[derive(Drop)]
+#[derive(Clone, Copy)]
 pub struct PlanContents {
     pub ports: usize,
     pub number: [u32; PORTS],
