@@ -155,9 +155,9 @@ fn read_operands(
 ) -> Result<ExpressionRead, Refusal>
     ensures { (rules i : ℕ) → told result ≡ noted (each count i (λ j. expression levels) s.now (stand at rules sources)) }
 {
-    if count == 0 {
-        return Ok(ExpressionRead { next: at, sources });
+    let mut read = ExpressionRead { next: at, sources };
+    for _ in 0..count {
+        read = read_expression(s, read.next, levels, read.sources)?;
     }
-    let first = read_expression(s, at, levels, sources)?;
-    read_operands(s, first.next, levels, first.sources, count - 1)
+    Ok(read)
 }

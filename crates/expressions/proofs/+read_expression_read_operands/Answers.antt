@@ -1,11 +1,12 @@
 -- `expressions::read_expression` and `expressions::read_operands` meet their contracts: a law for each kind, and one for each number of operands left.
 -- Assumes nothing.
-use Rattle.std.proofs.Common.{sym, ap, ◌∙◌, arith}
+use Rattle.std.proofs.Common.{◌≡◌, ℕ, ◌+◌, ◌-◌, ◌<◌, sym, ap, subst, ◌∙◌, arith}
 use Rattle.std.proofs.lemmas.Result.{err_from_is_err_and}
+use Rattle.model.specs.Reader.{each}
 use Rattle.model.specs.Book.{expression}
 use Rattle.model.proofs.NumberPast.{number_past}
 use Rattle.numbers.proofs.Fields.{numeral_of}
-use Rattle.expressions.specs.Told.{stand}
+use Rattle.expressions.specs.Told.{noted, stand}
 use Rattle.expressions.specs.Kinds.{kind_number}
 use Rattle.expressions.proofs.Told.{each_none, each_refused, each_got}
 use Rattle.expressions.proofs.Fields.{field_number}
@@ -54,19 +55,41 @@ read_expression-returns-in_ok-count-in-All t c = λ rules.
 pub read_expression-returns-in_default-kind : goal.read_expression-returns-in_default-kind
 read_expression-returns-in_default-kind t c = λ rules. entered _ c.if-levels-eq0.false _ _ _ (c.read_plain.ensures _ rules)
 
-pub read_operands-returns-then-count-eq0 : goal.read_operands-returns-then-count-eq0
-read_operands-returns-then-count-eq0 t c = λ rules i. sym (each_none (expression c.args.levels) _ (stand _ rules _) i _ c.if-count-eq0.true)
+-- an operand is left
+left_over : (n i : ℕ) → i < n → n - i ≡ 0 → ⊥
+left_over n i h e = omega arith
 
-pub read_operands-returns-in_err-first : goal.read_operands-returns-in_err-first
-read_operands-returns-in_err-first t c =
-    let p = err_from_is_err_and c.from_residual.result c.from_residual.ensures.1 in
-    rw (p.1, p.2) (λ rules i. sym (each_refused (expression c.args.levels) _ (stand _ rules _) i _ c.if-count-eq0.false _ _ (sym (c.in_err-first.ensures rules))))
+all_left : (n : ℕ) (F : ℕ → Type 0) → F (n - 0) → F n
+all_left n F x = let e : n - 0 ≡ n = omega arith in subst F e x
 
-pub read_operands-read_operands-requires : goal.read_operands-read_operands-requires
-read_operands-read_operands-requires t c =
-    let f = found _ _ (stand c.args.at 0 c.args.sources) _ (sym (c.in_ok-first.ensures 0)) in
-    omega (arith, f.on, f.inside, c.decreases)
+pub read_operands-loop-init : goal.read_operands-loop-init
+read_operands-loop-init t c =
+    let a = c.args in
+    record {
+      ahead = omega arith;
+      rest = λ r h rules i. all_left _ (λ k. r ≡ noted (each k i (λ j. expression a.levels) a.s.now (stand a.at rules a.sources))) (h rules i);
+    }
+
+pub read_operands-read_expression-requires : goal.read_operands-read_expression-requires
+read_operands-read_expression-requires t c = omega (arith, c.loop.invariant.ahead, c.decreases)
+
+pub read_operands-returns-in_err-read : goal.read_operands-returns-in_err-read
+read_operands-returns-in_err-read t c =
+    let p = err_from_is_err_and c.from_residual.result c.from_residual.ensures.1 in let l = c.loop in
+    rw (p.1, p.2) (l.invariant.rest _ (λ rules j. sym (each_refused (expression c.args.levels) _ (stand _ rules _) j _ (left_over _ _ c.loop-test.true) _ _
+    (sym (c.in_err-read.ensures rules)))))
+
+pub read_operands-loop-preserved : goal.read_operands-loop-preserved
+read_operands-loop-preserved t c =
+    let l = c.loop in
+    let f = found _ _ (stand l.read.next 0 l.read.sources) _ (sym (c.in_ok-read.ensures 0)) in
+    record {
+      ahead = omega (arith, l.invariant.ahead, f.on);
+      rest = λ r h. l.invariant.rest r (λ rules j. each_got (expression c.args.levels) _ (stand _ rules _) j _ (left_over _ _ c.loop-test.true) _
+          (sym (c.in_ok-read.ensures rules)) r (λ rules j. let one : (c.args.count - l.counter) - 1 ≡ c.args.count - (l.counter + 1) = omega arith in rw one (h rules j)));
+    }
 
 pub read_operands-returns : goal.read_operands-returns
-read_operands-returns t c = λ rules i.
-    each_got (expression c.args.levels) _ (stand _ rules _) i _ c.if-count-eq0.false _ (sym (c.in_ok-first.ensures rules)) _ c.read_operands.ensures
+read_operands-returns t c =
+    let l = c.loop in
+    l.invariant.rest _ (λ rules j. sym (each_none (expression c.args.levels) _ (stand _ rules _) j _ (omega (arith, c.loop-test.false))))
