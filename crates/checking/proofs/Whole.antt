@@ -78,9 +78,9 @@ module _ {s : List ℕ} {k : Contents} (t : ReadTo s k) where
 
   -- what the check of the calls says is what document 01 says
   module _ (r : Result (List ℕ) Refusal) where
-    pub checks_refused : (e : Refusal) → RanksCalls k t.book t.stand r → r ≡ Err e → Checks s (Err (record { refusal = e; contents = Some k }))
+    pub checks_refused : (e : Refusal) → RanksCalls k t.book t.stand r → r ≡ Err e → Checks s (Err (record { contents = Some k; refusal = e }))
     checks_refused e h q =
-        refused_checks s (record { refusal = e; contents = Some k }) (ap contents_read (sym (ap (told_as (λ (ranks : List ℕ). t.book)) q) ∙ h.answer ∙ sym readable_as)) as_read
+        refused_checks s (record { contents = Some k; refusal = e }) (ap contents_read (sym (ap (told_as (λ (ranks : List ℕ). t.book)) q) ∙ h.answer ∙ sym readable_as)) as_read
 
     pub checks_pass : (ranks : List ℕ) → RanksCalls k t.book t.stand r → r ≡ Ok ranks → Checks s (Ok (record { contents = k; ranks = ranks }))
     checks_pass ranks h q =

@@ -26,7 +26,7 @@ pub record RanksCalls (k : Contents) (b : Book) (st : Stand) (r : Result (List �
 
 -- a refusal of the reading alone
 abbrev pub unread : Refusal → Unfit
-unread refusal = record { refusal = refusal; contents = None }
+unread refusal = record { contents = None; refusal = refusal }
 
 -- the answer without the contents that stand beside a refusal
 abbrev pub plain : Result Checked Unfit → Result Checked Refusal

@@ -18,11 +18,12 @@ pub struct Checked {
     pub ranks: [u32; CHAINS],
 }
 
-// A book that is refused. Where it was read to its end, as for 9 and 10, its contents stand beside the refusal.
+// A book that is refused. Where it was read to its end, as for 9 and 10, its contents stand beside the refusal. They come first, as in
+// `Checked`: a `Result` holds both in the same bytes, and is then written with no further copy of them on the stack.
 #[derive(Clone, Copy)]
 pub struct Unfit {
-    pub refusal: Refusal,
     pub contents: Option<Contents>,
+    pub refusal: Refusal,
 }
 
 // A refusal of the reading: no contents.
@@ -31,8 +32,8 @@ impl From<Refusal> for Unfit {
 
     fn from(refusal: Refusal) -> Unfit {
         Unfit {
-            refusal,
             contents: None,
+            refusal,
         }
     }
 }
@@ -63,11 +64,14 @@ pub fn check(book: &[u8]) -> Result<Checked, Unfit>
     ensures { Checks book.now result }
 {
     let contents = read_book(book)?;
-    match rank_calls(&contents) {
-        Ok(ranks) => Ok(Checked { contents, ranks }),
-        Err(refusal) => Err(Unfit {
-            refusal,
-            contents: Some(contents),
-        }),
-    }
+    let ranks = match rank_calls(&contents) {
+        Ok(ranks) => ranks,
+        Err(refusal) => {
+            return Err(Unfit {
+                contents: Some(contents),
+                refusal,
+            });
+        }
+    };
+    Ok(Checked { contents, ranks })
 }

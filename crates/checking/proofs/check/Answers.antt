@@ -11,12 +11,12 @@ returns-in_err-contents c =
 pub rank_calls-requires : goal.rank_calls-requires
 rank_calls-requires c = shape (read_to _ _ c.read_book.ensures _ c.in_ok-contents.was)
 
-pub returns-in-Ok : goal.returns-in-Ok
-returns-in-Ok c =
-    let t = read_to _ _ c.read_book.ensures _ c.in_ok-contents.was in
-    checks_pass t _ _ (c.rank_calls.ensures t.book t.stand (charted t)) c.in-Ok.is
-
 pub returns-in-Err : goal.returns-in-Err
 returns-in-Err c =
     let t = read_to _ _ c.read_book.ensures _ c.in_ok-contents.was in
     checks_refused t _ _ (c.rank_calls.ensures t.book t.stand (charted t)) c.in-Err.is
+
+pub returns : goal.returns
+returns c =
+    let t = read_to _ _ c.read_book.ensures _ c.in_ok-contents.was in
+    checks_pass t _ _ (c.rank_calls.ensures t.book t.stand (charted t)) c.in-Ok.is
