@@ -58,7 +58,7 @@ pub fn show(rt: &HostRuntime, name: &str, book: &[u8], from: Option<usize>) -> i
             }
             println!(rt; "")
         }
-        Err(refusal) => println!(rt; "{name}: {refusal}"),
+        Err(unfit) => println!(rt; "{name}: {}", unfit.refusal),
     }
 }
 

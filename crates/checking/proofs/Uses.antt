@@ -3,24 +3,26 @@ use Rattle.std.proofs.Common.{◌≡◌, ℕ, List, refl, sym, ap, ◌∙◌}
 use Rattle.std.specs.Prelude.{Result, Ok, Err}
 use Rattle.model.specs.Answer.{Answer, fine, refused}
 use Rattle.model.specs.Tree.{Book}
+use Rattle.model.specs.Book.{book_of}
 use Rattle.model.specs.Calls.{checked, readable}
 use Rattle.model.proofs.Placed.{readable_read}
 use Rattle.refusals.specs.Refusals.{number_of, told_as}
-use Rattle.refusals.specs.declared.Refusal.{Refusal}
 use Rattle.refusals.proofs.Unique.{value_in}
 use Rattle.book.specs.Contents.{verdict_number, contents_of, Charted}
+use Rattle.book.specs.Told.{book_answer}
 use Rattle.book.specs.declared.Contents.{Contents}
 use Rattle.book.proofs.Charts.{contents_charted, contents_policy}
 use Rattle.calls.specs.Checked.{Passes}
 use Rattle.calls.proofs.Charted.{passes}
-use Rattle.checking.specs.Checks.{contents_read, Checks, CheckedFrom}
+use Rattle.checking.specs.Checks.{contents_read, contents_in, contents_out, plain, Checks, CheckedFrom}
 use Rattle.checking.specs.declared.Checked.{Checked}
+use Rattle.checking.specs.declared.Unfit.{Unfit}
 
 -- what an answer of the check says
-said : Result Checked Refusal → Answer Contents
-said = told_as (λ (k : Checked). k.contents)
+said : Result Checked Unfit → Answer Contents
+said r = told_as (λ (k : Checked). k.contents) (plain r)
 
-module _ (s : List ℕ) (r : Result Checked Refusal) (h : Checks s r) where
+module _ (s : List ℕ) (r : Result Checked Unfit) (h : Checks s r) where
   -- contents and ranks come from a book that is read
   pub from_ok : (k : Checked) → r ≡ Ok k → CheckedFrom s k
   unfolding said
@@ -31,13 +33,17 @@ module _ (s : List ℕ) (r : Result Checked Refusal) (h : Checks s r) where
       go (refused n p) q f = absurd (cc)
 
   -- and a refusal is document 01's
-  pub from_err : (e : Refusal) → r ≡ Err e → readable s ≡ refused (number_of e.fault) e.place
+  pub from_err : (u : Unfit) → r ≡ Err u → readable s ≡ refused (number_of u.refusal.fault) u.refusal.place
   unfolding said
-  from_err e q = go (readable s) (sym (ap said q) ∙ h.answer)
+  from_err u q = go (readable s) (sym (ap said q) ∙ h.answer)
     where
-      go : (a : Answer Book) → refused (number_of e.fault) e.place ≡ contents_read a → a ≡ refused (number_of e.fault) e.place
+      go : (a : Answer Book) → refused (number_of u.refusal.fault) u.refusal.place ≡ contents_read a → a ≡ refused (number_of u.refusal.fault) u.refusal.place
       go (fine b) f = absurd (cc)
       go (refused n p) f = cc
+
+  -- with the contents that were read beside it
+  pub beside_err : (u : Unfit) → r ≡ Err u → u.contents ≡ contents_in (book_answer (book_of s))
+  beside_err u q = sym (ap contents_out q) ∙ h.contents
 
 -- the contents are those of the book
 pub same_book : (s : List ℕ) (k : Checked) → CheckedFrom s k → (b : Book) → readable s ≡ fine b → k.contents ≡ contents_of b

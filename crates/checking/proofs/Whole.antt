@@ -1,6 +1,6 @@
 -- What a book's reading says of the book, and the check of its calls on top of it.
 use Rattle.std.proofs.Common.{◌≡◌, ℕ, ◌<◌, List, get_or, refl, sym, ap, ◌∙◌, subst}
-use Rattle.std.specs.Prelude.{Result, Ok, Err}
+use Rattle.std.specs.Prelude.{Some, Result, Ok, Err}
 use Rattle.model.specs.Answer.{fine, refused}
 use Rattle.model.specs.Reader as reader
 use Rattle.model.specs.Reader.{Stand, Read, got}
@@ -18,8 +18,9 @@ use Rattle.calls.specs.Sets.{rank_of}
 use Rattle.calls.specs.Reached.{Reached}
 use Rattle.calls.specs.Weights.{rank_in, Ranked}
 use Rattle.calls.proofs.Charted.{passed_ranks}
-use Rattle.checking.specs.Checks.{contents_read, RanksCalls, Checks}
+use Rattle.checking.specs.Checks.{contents_read, contents_in, unread, RanksCalls, Checks}
 use Rattle.checking.specs.declared.Checked.{Checked}
+use Rattle.checking.specs.declared.Unfit.{Unfit}
 
 -- a book that was read to its end
 pub record ReadTo (s : List ℕ) (k : Contents) : Type 0 where
@@ -28,8 +29,9 @@ pub record ReadTo (s : List ℕ) (k : Contents) : Type 0 where
   pub read : book_of s ≡ got book stand
   pub contents : k ≡ contents_of book
 
-pub refused_checks : (s : List ℕ) (e : Refusal) → refused (number_of e.fault) e.place ≡ contents_read (readable s) → Checks s (Err e)
-refused_checks s e h = record { answer = h; ranked = λ k q. absurd (cc) }
+pub refused_checks : (s : List ℕ) (u : Unfit) → refused (number_of u.refusal.fault) u.refusal.place ≡ contents_read (readable s) → u.contents ≡ contents_in (book_answer (book_of s))
+    → Checks s (Err u)
+refused_checks s u h beside = record { answer = h; contents = beside; ranked = λ k q. absurd (cc) }
 
 module _ (s : List ℕ) (r : Result Contents Refusal) (h : told r ≡ book_answer (book_of s)) where
   pub read_to : (k : Contents) → r ≡ Ok k → ReadTo s k
@@ -40,9 +42,9 @@ module _ (s : List ℕ) (r : Result Contents Refusal) (h : told r ≡ book_answe
       go (got b st) p f = record { book = b; stand = st; read = p; contents = ap (value_in k) f }
       go (reader.refused n p) q f = absurd (cc)
 
-  pub read_refused : (e : Refusal) → r ≡ Err e → Checks s (Err e)
+  pub read_refused : (e : Refusal) → r ≡ Err e → Checks s (Err (unread e))
   unfolding book_answer readable
-  read_refused e q = refused_checks s e (go (book_of s) (sym (ap told q) ∙ h))
+  read_refused e q = let same = sym (ap told q) ∙ h in refused_checks s (unread e) (go (book_of s) same) (ap contents_in same)
     where
       go : (a : Read Book) → refused (number_of e.fault) e.place ≡ book_answer a → refused (number_of e.fault) e.place ≡ contents_read (checked a)
       go (got b st) f = absurd (cc)
@@ -69,10 +71,16 @@ module _ {s : List ℕ} {k : Contents} (t : ReadTo s k) where
   unfolding readable
   readable_as = ap checked t.read
 
+  -- the contents that go on are those of the reading
+  as_read : Some k ≡ contents_in (book_answer (book_of s))
+  unfolding book_answer
+  as_read = ap Some t.contents ∙ ap (λ (r : Read Book). contents_in (book_answer r)) (sym t.read)
+
   -- what the check of the calls says is what document 01 says
   module _ (r : Result (List ℕ) Refusal) where
-    pub checks_refused : (e : Refusal) → RanksCalls k t.book t.stand r → r ≡ Err e → Checks s (Err e)
-    checks_refused e h q = refused_checks s e (ap contents_read (sym (ap (told_as (λ (ranks : List ℕ). t.book)) q) ∙ h.answer ∙ sym readable_as))
+    pub checks_refused : (e : Refusal) → RanksCalls k t.book t.stand r → r ≡ Err e → Checks s (Err (record { contents = Some k; refusal = e }))
+    checks_refused e h q =
+        refused_checks s (record { contents = Some k; refusal = e }) (ap contents_read (sym (ap (told_as (λ (ranks : List ℕ). t.book)) q) ∙ h.answer ∙ sym readable_as)) as_read
 
     pub checks_pass : (ranks : List ℕ) → RanksCalls k t.book t.stand r → r ≡ Ok ranks → Checks s (Ok (record { contents = k; ranks = ranks }))
     checks_pass ranks h q =
@@ -80,5 +88,6 @@ module _ {s : List ℕ} {k : Contents} (t : ReadTo s k) where
         let both : Checked = record { contents = k; ranks = ranks } in
         record {
           answer = ap fine t.contents ∙ ap contents_read (sym (ap (told_as (λ (ranks : List ℕ). t.book)) q) ∙ h.answer ∙ sym readable_as);
+          contents = as_read;
           ranked = λ c p. let same : both ≡ c = cc in subst (λ (c : Checked). Ranked c.contents (rank_in c.ranks)) same falls;
         }

@@ -6,10 +6,10 @@ use borrow.Author.Tests.{le-leb, lt-leb}
 use Rattle.model.specs.Limits.{greatest}
 use Rattle.model.specs.Entries.{check_entry}
 use Rattle.refusals.specs.Refusals.{number_of}
-use Rattle.refusals.specs.declared.Refusal.{Refusal}
 use Rattle.book.specs.Contents.{contents_of}
 use Rattle.checking.specs.Checks.{Checks}
 use Rattle.checking.specs.declared.Checked.{Checked}
+use Rattle.checking.specs.declared.Unfit.{Unfit}
 use Rattle.checking.proofs.Uses.{from_ok, from_err}
 use Rattle.reviewer.specs.Words.{word, refusal_words, given_words, check_words}
 
@@ -27,10 +27,10 @@ told (Ok y) x h = h.1 ∙ fits x (omega (arith, h.0))
 told (Err e) x h = too_large x (omega (arith, h))
 
 -- the check's answer in words
-module _ (s : List ℕ) (r : Result Checked Refusal) (h : Checks s r) where
-  pub check_refused : (e : Refusal) → r ≡ Err e → refusal_words (number_of e.fault) e.place ≡ check_words (check_entry s)
+module _ (s : List ℕ) (r : Result Checked Unfit) (h : Checks s r) where
+  pub check_refused : (u : Unfit) → r ≡ Err u → refusal_words (number_of u.refusal.fault) u.refusal.place ≡ check_words (check_entry s)
   unfolding check_entry
-  check_refused e q = let k = from_err s r h e q in rw k
+  check_refused u q = let k = from_err s r h u q in rw k
 
   pub check_fine : (k : Checked) → r ≡ Ok k → given_words (word k.contents.chains) (word k.contents.rules) 0 ≡ check_words (check_entry s)
   unfolding check_entry contents_of

@@ -20,7 +20,7 @@ pub extern "C" fn tannenlaut_check(book: &[u8], answer: &mut [u32; 6])
             let contents = &checked.contents;
             given(word(contents.chains), word(contents.rules), 0)
         }
-        Err(refusal) => refused(refusal),
+        Err(unfit) => refused(unfit.refusal),
     };
 }
 

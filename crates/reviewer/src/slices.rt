@@ -15,7 +15,7 @@ fn stray(book: &[u8], place: u32) -> Refusal
     ensures { model_refused (number_of result.fault) result.place ≡ stray_over book.now place }
 {
     match check(book) {
-        Err(refusal) => refusal,
+        Err(unfit) => unfit.refusal,
         Ok(_) => Fault::StrayState.at(place as usize),
     }
 }

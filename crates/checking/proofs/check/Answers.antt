@@ -11,13 +11,12 @@ returns-in_err-contents c =
 pub rank_calls-requires : goal.rank_calls-requires
 rank_calls-requires c = shape (read_to _ _ c.read_book.ensures _ c.in_ok-contents.was)
 
-pub returns-in_err-ranks : goal.returns-in_err-ranks
-returns-in_err-ranks c =
-    let p = err_from_is_err_and c.from_residual-in_err-ranks.result c.from_residual-in_err-ranks.ensures.1 in
+pub returns-in-Err : goal.returns-in-Err
+returns-in-Err c =
     let t = read_to _ _ c.read_book.ensures _ c.in_ok-contents.was in
-    rw (p.1, p.2) (checks_refused t _ _ (c.rank_calls.ensures t.book t.stand (charted t)) c.in_err-ranks.was)
+    checks_refused t _ _ (c.rank_calls.ensures t.book t.stand (charted t)) c.in-Err.is
 
 pub returns : goal.returns
 returns c =
     let t = read_to _ _ c.read_book.ensures _ c.in_ok-contents.was in
-    checks_pass t _ _ (c.rank_calls.ensures t.book t.stand (charted t)) c.in_ok-ranks.was
+    checks_pass t _ _ (c.rank_calls.ensures t.book t.stand (charted t)) c.in-Ok.is

@@ -13,8 +13,9 @@ use Rattle.report.proofs.put_body.Goals as goal
 pub returns-in_err-checked : goal.returns-in_err-checked
 returns-in_err-checked c =
     let p = err_from_is_err_and c.from_residual.result c.from_residual.ensures.1 in
-    let e = c.in_err-checked.field-0.0 in
-    let r = book_refused c.args.book.now c.args.plan.now c.args.words.now _ _ (from_err c.args.book.now (Err e) c.in_err-checked.ensures e refl) in
+    let u = c.in_err-checked.field-0.0 in
+    let e = u.refusal in
+    let r = book_refused c.args.book.now c.args.plan.now c.args.words.now _ _ (from_err c.args.book.now (Err u) c.in_err-checked.ensures u refl) in
     record { body = rw (p.1, p.2) (body_refused c.args.book.now c.args.plan.now c.args.words.now e r _); lent = words_refused c.args.book.now c.args.plan.now c.args.words.now e r _ refl }
 
 pub returns-in_err-plan : goal.returns-in_err-plan

@@ -13,9 +13,9 @@ pub returns-in_err-checked : goal.returns-in_err-checked
 returns-in_err-checked c =
     let a = c.args in
     let p = err_from_is_err_and c.from_residual.result c.from_residual.ensures.1 in
-    let e = c.in_err-checked.field-0.0 in
-    let refused = book_refused a.book.now a.plan.now a.port a.words.now _ _ (from_err _ _ c.check.ensures e c.in_err-checked.was) in
-    refuses a.book.now a.plan.now a.port a.words.now e refused _ (rw (p.1, p.2)) _ refl
+    let u = c.in_err-checked.field-0.0 in
+    let refused = book_refused a.book.now a.plan.now a.port a.words.now _ _ (from_err _ _ c.check.ensures u c.in_err-checked.was) in
+    refuses a.book.now a.plan.now a.port a.words.now u.refusal refused _ (rw (p.1, p.2)) _ refl
 
 pub returns-in_err-contents : goal.returns-in_err-contents
 returns-in_err-contents c =
