@@ -16,10 +16,11 @@ pub unfold-requires : goal.unfold-requires
 unfold-requires c =
     let f = c.requires.from in
     can_unfold _ f.book _ f.read f.contents c.room-need.result
-    (c.room-need.ensures.2 f.book (charted_actions (charted _ f.book _ f.read f.contents)) f.ranked (readable_passes _ f.book f.read)) _ c.if-words-need.false
+    (c.room-need.ensures.2 f.book (charted_actions (charted _ f.book _ f.read f.contents)) f.ranked (readable_passes _ f.book f.read))
+    _ c.number.ensures _ c.if-words-need.false
 
 pub returns : goal.returns
 returns c = λ s b e f.
     let q = same_book s _ f b e in
     enough s b _ e q c.room-need.result (c.room-need.ensures.2 b (charted_actions (charted s b _ e q)) f.ranked (readable_passes s b e)) _ c.if-words-need.false _ _
-    (c.unfold.ensures b (holds s b _ e q))
+    (c.unfold.ensures b (holds s b _ e q _ c.number.ensures))
