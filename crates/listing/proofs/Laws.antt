@@ -64,8 +64,8 @@ module _ (s : List ℕ) (b : Book) (k : Contents) (e : readable s ≡ fine b) (q
   pub charted : Charted b k
   charted = subst (Charted b) (sym q) (readable_charted s b e)
 
-  pub holds : Holds b k
-  holds = record { charted = charted; ends = readable_policy s b e ∙ ap (λ (k : Contents). verdict_number k.policy) (sym q) }
+  pub holds : (policy : ℕ) → policy ≡ verdict_number k.policy → Holds b k policy
+  holds policy is = record { charted = charted; ends = readable_policy s b e ∙ ap (λ (k : Contents). verdict_number k.policy) (sym q) ∙ sym is }
 
   module _ (need : Need) (n : need ≡ need_of b) where
     words_needed : need.words ≡ length (words_of (list_of b))
@@ -79,8 +79,8 @@ module _ (s : List ℕ) (b : Book) (k : Contents) (e : readable s ≡ fine b) (q
         let t : leb (length (words_of (list_of b))) (length lent) ≡ _ = lt-leb (length (words_of (list_of b))) (length lent) (omega (arith, words_needed)) in
         record { answer = rw (t, words_needed); lent = rw t }
 
-    pub can_unfold : (lent : ℕ) → need.words ≤ lent → Unfoldable k lent
-    can_unfold lent h = readable_unfoldable s b e holds (omega (arith, words_needed))
+    pub can_unfold : (policy : ℕ) → policy ≡ verdict_number k.policy → (lent : ℕ) → need.words ≤ lent → Unfoldable k policy lent
+    can_unfold policy is lent h = readable_unfoldable s b e (holds policy is) (omega (arith, words_needed))
 
     pub enough : (lent : List ℕ) → need.words ≤ length lent → (count : ℕ) (after : List ℕ) → Listed b lent count after → Lists b lent (Ok need) after
     enough lent h count after l =

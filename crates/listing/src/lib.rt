@@ -24,7 +24,7 @@ pub fn list_book(checked: &Checked, words: &mut [u32]) -> Result<Need, Refusal>
     if words.len() < need.words {
         return Err(Fault::NoRoom.at(need.words));
     }
-    unfold(&checked.contents, words);
+    unfold(&checked.contents, checked.contents.policy.number(), words);
     Ok(need)
 }
 

@@ -4,10 +4,10 @@
 ghost use Rattle.std.specs.Prelude.{◌≡◌, ℕ, ◌+◌, ◌<◌, ◌≤◌};
 ghost use Rattle.model.specs.Limits.{chains_most};
 ghost use Rattle.model.specs.Tree.{Book};
-ghost use Rattle.book.specs.Contents.{said, Shape, Charted, first_of, rules_in};
+ghost use Rattle.book.specs.Contents.{said, Shape, first_of, rules_in};
 ghost use Rattle.book.specs.declared.ChainNumber.{ChainNumber};
 ghost use Rattle.book.specs.declared.Action.TheVariants.{Call};
-ghost use Rattle.calls.specs.Actions.{actions_at};
+ghost use Rattle.calls.specs.Actions.{Actions, actions_at};
 ghost use Rattle.calls.specs.Weights.{rank_in, Ranked};
 ghost use Rattle.calls.specs.Checked.{Passes};
 ghost use Rattle.room.specs.declared.Need.{Need};
@@ -94,7 +94,7 @@ pub fn room(contents: &Contents, ranks: &[u32; CHAINS]) -> Need
     requires { Shape contents.now }
     ensures { (result.rules ≤ need_most + 1)
         × (result.words ≤ need_most + 3)
-        × ((b : Book) → Charted b contents.now → Ranked contents.now (rank_in ranks.now) → Passes b → result ≡ need_of b) }
+        × ((b : Book) → Actions b contents.now → Ranked contents.now (rank_in ranks.now) → Passes b → result ≡ need_of b) }
 {
     let mut needs = [NOTHING; CHAINS];
     for level in 0..contents.chains {

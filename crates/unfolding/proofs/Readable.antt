@@ -58,5 +58,5 @@ module _ (s : List ℕ) (b : Book) (e : readable s ≡ fine b) where
   near = every_as (Every (RuleStands s)) (Every (λ (r : Rule). place_of r.match ≤ book_bytes)) (λ rs. every_as (RuleStands s) (λ (r : Rule). place_of r.match ≤ book_bytes) rule_near rs) b.chains
       (fine_is (BookStands s) (readable s) b (readable_placed s) e)
 
-  pub readable_unfoldable : {k : Contents} {space : ℕ} → Holds b k → length (words_of (list_of b)) ≤ space → Unfoldable k space
+  pub readable_unfoldable : {k : Contents} {policy space : ℕ} → Holds b k policy → length (words_of (list_of b)) ≤ space → Unfoldable k policy space
   readable_unfoldable h room = record { book = b; holds = h; free = (readable_is s b e).free; near = near; room = room }

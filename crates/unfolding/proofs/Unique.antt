@@ -5,8 +5,8 @@ use mathlib.Core.List.{List}
 use Rattle.book.specs.declared.Contents.{Contents}
 use Rattle.unfolding.specs.Unfolded.{Unfoldable, Unfolded}
 
-pub unfolded_same : {k : Contents} {space : ℕ} → Unfoldable k space
-    → {before : List ℕ} {count count' : ℕ} {now now' : List ℕ} → Unfolded k before count now → Unfolded k before count' now'
+pub unfolded_same : {k : Contents} {policy space : ℕ} → Unfoldable k policy space
+    → {before : List ℕ} {count count' : ℕ} {now now' : List ℕ} → Unfolded k policy before count now → Unfolded k policy before count' now'
     → (count ≡ count') × (now ≡ now')
 unfolded_same u one two =
     let a = one u.book u.holds in

@@ -9,7 +9,6 @@ use Rattle.model.specs.Tree.{Book}
 use Rattle.model.specs.Unfolding.{list_of, words_of}
 use Rattle.model.specs.Filling.{put}
 use Rattle.model.proofs.Filling.{put_put, put_front}
-use Rattle.book.specs.Contents.{verdict_number}
 use Rattle.book.specs.declared.Contents.{Contents}
 use Rattle.unfolding.specs.Emitted.{entry, chain_words}
 use Rattle.unfolding.specs.Walking.{Writable, ChainPre, ChainPost}
@@ -17,16 +16,16 @@ use Rattle.unfolding.specs.Unfolded.{Holds, Unfoldable, Unfolded}
 use Rattle.unfolding.proofs.ListWords.{list_words}
 use Rattle.unfolding.proofs.LoopFreeOrder.{from_entry}
 
-module _ (k : Contents) (w : List ℕ) (u : Unfoldable k (length w)) where
+module _ (k : Contents) (policy : ℕ) (w : List ℕ) (u : Unfoldable k policy (length w)) where
   -- the words before the policy's
   abbrev front : List ℕ
   front = chain_words k k.chains [] 0
 
-  all_words : (b : Book) → Holds b k → front ++ entry (verdict_number k.policy) k.rules [] ≡ words_of (list_of b)
-  all_words b h = list_words b k h.charted (verdict_number k.policy) h.ends
+  all_words : (b : Book) → Holds b k policy → front ++ entry policy k.rules [] ≡ words_of (list_of b)
+  all_words b h = list_words b k h.charted policy h.ends
 
-  all_length : (b : Book) → Holds b k → length front + 3 ≡ length (words_of (list_of b))
-  all_length b h = sym (length-append front (entry (verdict_number k.policy) k.rules [])) ∙ ap length (all_words b h)
+  all_length : (b : Book) → Holds b k policy → length front + 3 ≡ length (words_of (list_of b))
+  all_length b h = sym (length-append front (entry policy k.rules [])) ∙ ap length (all_words b h)
 
   pub few_rules : k.rules ≤ rules_most
   few_rules = u.holds.charted.shape.room
@@ -47,8 +46,8 @@ module _ (k : Contents) (w : List ℕ) (u : Unfoldable k (length w)) where
     pub policy_pre : length w' ≡ length w → Writable [] w' to
     policy_pre e = record { few = omega arith; room = omega (arith, e, q.count, u.room, all_length u.book u.holds) }
 
-    pub unfolded : (r : ℕ) (v : List ℕ) → r ≡ to + (0 + 3) → v ≡ put w' to (entry (verdict_number k.policy) k.rules []) → Unfolded k w r v
+    pub unfolded : (r : ℕ) (v : List ℕ) → r ≡ to + (0 + 3) → v ≡ put w' to (entry policy k.rules []) → Unfolded k policy w r v
     unfolded r v er ev b h = record {
       counted = omega (arith, er, q.count, all_length b h);
-      words = ev ∙ rw (q.written, q.count) (put_put w 0 front (entry (verdict_number k.policy) k.rules []) (omega arith)) ∙ put_front w (front ++ entry (verdict_number k.policy) k.rules []) ∙ ap (λ l. l ++ drop (length l) w) (all_words b h);
+      words = ev ∙ rw (q.written, q.count) (put_put w 0 front (entry policy k.rules []) (omega arith)) ∙ put_front w (front ++ entry policy k.rules []) ∙ ap (λ l. l ++ drop (length l) w) (all_words b h);
     }

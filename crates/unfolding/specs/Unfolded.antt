@@ -6,22 +6,22 @@ use Rattle.model.specs.Tree.{Book, Rule, place_of, Every}
 use Rattle.model.specs.Calls.{LoopFree}
 use Rattle.model.specs.Unfolding.{list_of, words_of}
 use Rattle.model.specs.Entries.{filled}
-use Rattle.book.specs.Contents.{verdict_number, Charted}
+use Rattle.book.specs.Contents.{Charted}
 use Rattle.book.specs.declared.Contents.{Contents}
 
--- the contents and their policy are those of b
-pub record Holds (b : Book) (k : Contents) : Type 0 where
+-- the contents and the policy are those of b
+pub record Holds (b : Book) (k : Contents) (policy : ℕ) : Type 0 where
   pub charted : Charted b k
-  pub ends : b.policy ≡ verdict_number k.policy
+  pub ends : b.policy ≡ policy
 
 -- no expression stands further on than a book is long, so a condition is a word of 32 bits
 abbrev pub Near : Book → Type 0
 Near b = Every (Every (λ (r : Rule). place_of r.match ≤ book_bytes)) b.chains
 
 -- They are those of a book without loops, and its list has room.
-pub record Unfoldable (k : Contents) (space : ℕ) : Type 0 where
+pub record Unfoldable (k : Contents) (policy space : ℕ) : Type 0 where
   pub book : Book
-  pub holds : Holds book k
+  pub holds : Holds book k policy
   pub free : LoopFree book
   pub near : Near book
   pub room : length (words_of (list_of book)) ≤ space
@@ -32,5 +32,5 @@ pub record Listed (b : Book) (before : List ℕ) (count : ℕ) (now : List ℕ) 
   pub words : now ≡ filled before (fine b)
 
 -- of whatever book the contents are
-abbrev pub Unfolded : Contents → List ℕ → ℕ → List ℕ → Type 0
-Unfolded k before count now = (b : Book) → Holds b k → Listed b before count now
+abbrev pub Unfolded : Contents → ℕ → List ℕ → ℕ → List ℕ → Type 0
+Unfolded k policy before count now = (b : Book) → Holds b k policy → Listed b before count now

@@ -3,30 +3,33 @@
 
 ghost use Rattle.std.specs.Prelude.{◌≡◌, ◌+◌, length};
 ghost use Rattle.model.specs.Filling.{put};
-ghost use Rattle.book.specs.Contents.{verdict_number};
 ghost use Rattle.unfolding.specs.Emitted.{entry};
 ghost use Rattle.unfolding.specs.Walking.{Writable, ChainPre, ChainPost};
 ghost use Rattle.unfolding.specs.Unfolded.{Unfoldable, Unfolded};
 
 use book::{Action, ChainNumber, Contents, RULES, RuleNumber, Verdict};
 
-// A list rule, from word `at` on: action, number, count, and its conditions. Lent words say the action by document 01's number.
-// Answers where the next one goes.
+// The actions of a chain's list rules, by document 01's numbers.
+const ACCEPT: u32 = Verdict::Accept as u32;
+
+const DROP: u32 = Verdict::Drop as u32;
+
+// A list rule, from word `at` on: the number of its action, its own, a count, and its conditions. Answers where the next one goes.
 fn write_rule(
     conditions: &[u32],
-    verdict: Verdict,
+    action: u32,
     number: RuleNumber,
     words: &mut [u32],
     at: usize,
 ) -> usize
     requires { Writable conditions.now words.old at }
     ensures next { result ≡ at + (length conditions.now + 3) }
-    ensures written { words.new ≡ put words.old at (entry (verdict_number verdict) number.0 conditions.now) }
+    ensures written { words.new ≡ put words.old at (entry action number.0 conditions.now) }
 {
     let count = conditions.len();
     let from = at + 3;
     let to = from + count;
-    words[at] = verdict.number();
+    words[at] = action;
     words[at + 1] = number.0;
     words[at + 2] = count as u32;
     words[from..to].copy_from_slice(conditions);
@@ -58,11 +61,11 @@ fn unfold_chain(
         // the rule's own match stands behind the m conditions of its place
         ctx[m] = 2 * noted.expression;
         match noted.action {
-            Action::Accept => to = write_rule(&ctx[..m + 1], Verdict::Accept, number, words, to),
+            Action::Accept => to = write_rule(&ctx[..m + 1], ACCEPT, number, words, to),
             // a reject denies as a drop does
             Action::Drop | Action::Reject => to = write_rule(
                 &ctx[..m + 1],
-                Verdict::Drop,
+                DROP,
                 number,
                 words,
                 to,
@@ -82,10 +85,10 @@ fn unfold_chain(
     to
 }
 
-// The whole list: the entry's rules, and last the policy. Answers how many words it has.
-pub fn unfold(contents: &Contents, words: &mut [u32]) -> usize
-    requires { Unfoldable contents.now (length words.old) }
-    ensures { Unfolded contents.now words.old result words.new }
+// The whole list: the entry's rules, and last the policy, a word of any number. Answers how many words it has.
+pub fn unfold(contents: &Contents, policy: u32, words: &mut [u32]) -> usize
+    requires { Unfoldable contents.now policy (length words.old) }
+    ensures { Unfolded contents.now policy words.old result words.new }
 {
     let mut ctx = [0; RULES];
     let to = unfold_chain(
@@ -97,11 +100,5 @@ pub fn unfold(contents: &Contents, words: &mut [u32]) -> usize
         words,
         0,
     );
-    write_rule(
-        &[],
-        contents.policy,
-        RuleNumber(contents.rules as u32),
-        words,
-        to,
-    )
+    write_rule(&[], policy, RuleNumber(contents.rules as u32), words, to)
 }

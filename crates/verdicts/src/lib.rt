@@ -54,7 +54,9 @@ pub fn chain_verdict(book: &[u8], answers: &[u8], p: Packet) -> Result<Verdict, 
 {
     let contents = check(book)?.contents;
     check_answers(answers)?;
-    Ok(walks::chain_verdict(book, answers, p, &contents))
+    let policy = contents.policy.number();
+    let verdict = walks::chain_verdict(book, answers, p, &contents, policy);
+    Ok(Verdict::of(verdict))
 }
 
 // THE LIST VERDICT: 1 to 10, then 16, then 13. Nothing is in doubt, so that either tactic gives the same.

@@ -64,10 +64,10 @@ module _ (s answers : List ℕ) (p : Packet) where
       stands = h.stands;
     }
 
-    pub one_chain_verdict : Keeping s k (HasChains k.chains) → (r q : Verdict) → ChainsSay s answers p k r → ChainsSay s answers p k q → r ≡ q
-    one_chain_verdict h r q f g =
-        let b : Book = record { policy = verdict_number k.policy; total = h.book.total; chains = h.book.chains } in
-        one_verdict r q (f b (under (verdict_number k.policy) h.book h.kept) refl ∙ sym (g b (under (verdict_number k.policy) h.book h.kept) refl))
+    pub one_chain_verdict : (policy : ℕ) → Keeping s k (HasChains k.chains) → (r q : ℕ) → ChainsSay s answers p k policy r → ChainsSay s answers p k policy q → r ≡ q
+    one_chain_verdict policy h r q f g =
+        let b : Book = record { policy = policy; total = h.book.total; chains = h.book.chains } in
+        f b (under policy h.book h.kept) refl ∙ sym (g b (under policy h.book h.kept) refl)
 
   pub one_list_verdict : (words : List ℕ) (told : Bool) (tactic : Tactic) → Listing s words → (r q : ℕ)
       → ListSays s answers words p told tactic r → ListSays s answers words p told tactic q → r ≡ q

@@ -1,7 +1,6 @@
 -- The walk of the chains by the book's contents: what a rule does, and what is left of its chain behind it. Assumes nothing.
 use Rattle.std.proofs.Common.{ℕ, zero, suc, ◌+◌, ◌-◌, ◌<◌, ◌≤◌, Bool, true, false, List, [], ◌∷◌, ◌≡◌}
-use Rattle.std.proofs.Common.{refl, sym, ◌∙◌, ap, subst, arith, add-one, length, Option, Some, None, ◌⊎◌, inl, inr}
-use Rattle.std.specs.Option.{unwrap_or}
+use Rattle.std.proofs.Common.{refl, sym, ◌∙◌, ap, subst, arith, add-one, length, Option, ◌⊎◌, inl, inr}
 use Rattle.model.specs.Answer.{when}
 use Rattle.model.specs.Calls.{chain_of}
 use Rattle.model.specs.Ternary.{is_yes}
@@ -29,7 +28,7 @@ use Rattle.walks.specs.declared.Packet.{Packet}
 use Rattle.walks.specs.declared.Step.{Step}
 use Rattle.walks.specs.declared.Step.TheVariants.{Decides, GoesOn}
 use Rattle.walks.specs.Packets.{packet_of, header_of, asking_of}
-use Rattle.walks.specs.Walks.{decided, outcome_of, after, Kept, HasChain, WalksRule, WalksChain, ChainsSay}
+use Rattle.walks.specs.Walks.{decided, outcome_of, after, counting, Kept, HasChain, WalksRule, WalksChain, ChainsSay}
 
 -- an expression matches exactly where its value is yes, once all of the packet and the answers are known
 matches_seen : (s answers : List ℕ) (p : Packet) (a : Asking) → a ≡ asking_of p true → (at : ℕ) (r : Seen) → SeesExpr a p.source s answers at r
@@ -88,11 +87,16 @@ pub record Left (s : List ℕ) (k : Contents) (run : ℕ → model.Outcome) (m :
   pub count : i + length rest ≡ end
   pub same : walk_rules run m rest ≡ walk_rules run m chain
 
+-- what is noted of rules says nothing of how many there are
+noted_as : (k : Contents) (n i : ℕ) (rs : List Rule) → NotedAll (counting k n) i rs → NotedAll k i rs
+noted_as k n i [] h = tt
+noted_as k n i (r ∷ rs) h = (record { number = h.0.number; act = h.0.act; match = h.0.match }, noted_as k n (suc i) rs h.1)
+
 module _ {s : List ℕ} {k : Contents} {b : Book} (h : Kept s k b) (c : ℕ) (lt : HasChain c b) where
   pub left_all : (run : ℕ → model.Outcome) (m : Expr → Bool) → Left s k run m (chain_of b c) (first_of k (c + 1)) (first_of k c)
   left_all run m = let lt' : c < k.chains = omega (arith, lt, h.charted.count) in record {
     rest = chain_of b c;
-    noted = h.charted.noted c lt';
+    noted = noted_as k b.total _ _ (h.charted.noted c lt');
     stands = every_at (Every (RuleStands s)) b.chains c [] lt h.stands;
     count = omega (arith, h.charted.sizes c lt', h.charted.shape.rising c lt');
     same = refl;
@@ -157,15 +161,14 @@ walk_some b m c depth ne = go depth ne
     go (suc n) ne = let e : suc n - 1 ≡ n = omega arith in rw e
 
 -- the entry's outcome, and where it has none the policy
-settled : (o : Option Verdict) (v : Verdict) (policy : ℕ) → policy ≡ verdict_number v → verdict_number (unwrap_or o v) ≡ settle policy (outcome_of o)
-settled None v policy q = sym q
-settled (Some Accept) v policy q = refl
-settled (Some Drop) v policy q = refl
+pub settled : (policy : ℕ) (v : Verdict) → verdict_number v ≡ settle policy (decided v)
+settled policy Accept = refl
+settled policy Drop = refl
 
-pub chains_say : (s answers : List ℕ) (p : Packet) (k : Contents) (o : Option Verdict) → WalksChain s answers p k 0 k.chains o
-    → ChainsSay s answers p k (unwrap_or o k.policy)
-unfolding chain_verdict
-chains_say s answers p k o w b h q =
-    let e : outcome_of o ≡ walk k.chains b (matches answers (packet_of p)) 0 = w b h (omega (arith, h.charted.count, h.charted.shape.some)) in
-    let n : length b.chains ≡ k.chains = h.charted.count in
-    settled o k.policy b.policy q ∙ rw (n, ← e)
+module _ (s answers : List ℕ) (p : Packet) (k : Contents) (policy : ℕ) (o : Option Verdict) (w : WalksChain s answers p k 0 k.chains o) where
+  pub chains_say : (r : ℕ) → r ≡ settle policy (outcome_of o) → ChainsSay s answers p k policy r
+  unfolding chain_verdict
+  chains_say r is b h q =
+      let e : outcome_of o ≡ walk k.chains b (matches answers (packet_of p)) 0 = w b h (omega (arith, h.charted.count, h.charted.shape.some)) in
+      let n : length b.chains ≡ k.chains = h.charted.count in
+      is ∙ rw (n, ← e, q)

@@ -6,7 +6,7 @@ use Rattle.model.specs.Standing.{Standing, RuleStands, BookStands}
 use Rattle.model.specs.Matching.{matches}
 use Rattle.model.specs.Chains as model
 use Rattle.model.specs.Chains.{accepted, denied, undecided, act, walk, chain_verdict}
-use Rattle.book.specs.Contents.{expression_at, verdict_number, Noted, Charted}
+use Rattle.book.specs.Contents.{expression_at, Noted, Charted}
 use Rattle.book.specs.declared.Contents.{Contents}
 use Rattle.book.specs.declared.Verdict.{Verdict}
 use Rattle.book.specs.declared.Verdict.TheVariants.{Accept, Drop}
@@ -30,9 +30,13 @@ after (Decides v) rest = decided v
 after Leaves rest = undecided
 after GoesOn rest = rest
 
--- the contents are b's, and its expressions stand in the bytes
+-- the contents with n rules in all
+abbrev pub counting : Contents → ℕ → Contents
+counting k n = record { policy = k.policy; chains = k.chains; rules = n; first = k.first; noted = k.noted }
+
+-- The contents are b's, whatever they count: a walk goes by each chain's rules. And b's expressions stand in the bytes.
 pub record Kept (s : List ℕ) (k : Contents) (b : Book) : Type 0 where
-  pub charted : Charted b k
+  pub charted : Charted b (counting k b.total)
   pub stands : BookStands s b
 
 -- so they are of some book, of which P holds
@@ -60,5 +64,6 @@ module _ (s answers : List ℕ) (p : Packet) (k : Contents) where
   abbrev pub WalksChain : ℕ → ℕ → Option Verdict → Type 0
   WalksChain c depth r = (b : Book) → Kept s k b → HasChain c b → outcome_of r ≡ walk depth b (matches answers (packet_of p)) c
 
-  abbrev pub ChainsSay : Verdict → Type 0
-  ChainsSay r = (b : Book) → Kept s k b → b.policy ≡ verdict_number k.policy → verdict_number r ≡ chain_verdict b (matches answers (packet_of p))
+  -- 0 accept, 1 drop
+  abbrev pub ChainsSay : ℕ → ℕ → Type 0
+  ChainsSay policy r = (b : Book) → Kept s k b → b.policy ≡ policy → r ≡ chain_verdict b (matches answers (packet_of p))

@@ -134,20 +134,24 @@ fn walk_chain(
     None
 }
 
-// The verdict of the chains. Without loops, calls nest no deeper than there are chains.
-pub fn chain_verdict(s: &[u8], answers: &[u8], p: Packet, contents: &Contents) -> Verdict
+// The verdict of the chains, as a number, since it promises for policies of any number. Without loops, calls nest no deeper than there
+// are chains.
+pub fn chain_verdict(s: &[u8], answers: &[u8], p: Packet, contents: &Contents, policy: u32) -> u32
     requires { Keeping s.now contents.now (HasChains contents.now.chains) }
-    ensures { ChainsSay s.now answers.now p contents.now result }
+    ensures { ChainsSay s.now answers.now p contents.now policy result }
 {
-    walk_chain(
+    let walk = walk_chain(
         s,
         answers,
         p,
         contents,
         ChainNumber(0),
         contents.chains as u32,
-    )
-    .unwrap_or(contents.policy)
+    );
+    match walk {
+        Some(verdict) => verdict.number(),
+        None => policy,
+    }
 }
 
 // The verdict of a list: the action of the first rule that is taken. One function for the exact verdict and the closures: they differ in

@@ -1,7 +1,6 @@
 -- The ranks below the level have their needs; every rank is below the number of chains, so the entry has its own.
 use native.Mathlib.Omega.{arith}
 use lib.ListN.{length}
-use Rattle.calls.proofs.Charted.{charted_actions}
 use Rattle.room.specs.Counting.{chain_need}
 use Rattle.room.specs.Capped.{kept}
 use Rattle.room.proofs.Exact.{list_need}
@@ -19,5 +18,5 @@ returns c =
       omega (arith, n.words),
       λ b k by p.
           list_need b p (kept c.loop-level.needs 0)
-          (c.loop-level.invariant.1 (chain_need (length b.chains) b) (counting (charted_actions k) p.free by) 0 c.requires.some (omega (arith, by.below 0 c.requires.some))),
+          (c.loop-level.invariant.1 (chain_need (length b.chains) b) (counting k p.free by) 0 c.requires.some (omega (arith, by.below 0 c.requires.some))),
     )

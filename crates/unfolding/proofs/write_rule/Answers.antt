@@ -1,9 +1,7 @@
 -- The head, and the conditions behind it.
-use Rattle.book.specs.Contents.{verdict_number}
 use Rattle.unfolding.proofs.Entries.{entry_written}
 use Rattle.unfolding.proofs.write_rule.Goals as goal
 
 pub returns-clause-written : goal.returns-clause-written
 returns-clause-written c =
-    let a = c.args in
-    rw (c.copy_from_slice.ensures.after, c.number.ensures) (entry_written a.conditions.now a.words.now a.at (verdict_number a.verdict) a.number.0 c.requires)
+    let a = c.args in rw c.copy_from_slice.ensures.after (entry_written a.conditions.now a.words.now a.at a.action a.number.0 c.requires)

@@ -16,12 +16,12 @@ returns-in_err-check_answers c =
     let k = from_ok _ _ c.check.ensures _ c.in_ok-contents.was in
     rw (p.1, p.2) (chain_wrong _ k.book k.read _ _ _ c.in_err-check_answers.ensures _)
 
-pub chain_verdict-requires : goal.chain_verdict-requires
-chain_verdict-requires c = can_walk (from_ok _ _ c.check.ensures _ c.in_ok-contents.was)
+pub chain_verdict-verdict-requires : goal.chain_verdict-verdict-requires
+chain_verdict-verdict-requires c = can_walk (from_ok _ _ c.check.ensures _ c.in_ok-contents.was)
 
 pub returns : goal.returns
 returns c =
     let a = c.args in
     let k = from_ok _ _ c.check.ensures _ c.in_ok-contents.was in
     chain_meets _ k.book k.read a.answers.now _ c.in_ok-check_answers.ensures _ _
-    (walked k a.answers.now a.p c.chain_verdict.result c.chain_verdict.ensures k.book k.read)
+    (walked k a.answers.now a.p c.number-policy.result c.chain_verdict-verdict.result c.number-policy.ensures c.chain_verdict-verdict.ensures _ c.of.ensures k.book k.read)

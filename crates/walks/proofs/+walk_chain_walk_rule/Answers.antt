@@ -5,13 +5,16 @@ use Rattle.model.specs.Chains.{undecided, or_else}
 use Rattle.book.specs.Contents.{said}
 use Rattle.matching.specs.declared.Truth.TheVariants.{Yes}
 use Rattle.walks.proofs.Walks.{in_total, rule_passes, rule_acts, rule_denies, rule_calls, ends}
-use Rattle.walks.proofs.Walks.{left_standing, left_ends, left_on, left_none, walk_none, walk_some}
+use Rattle.walks.proofs.Walks.{left_all, left_standing, left_ends, left_on, left_none, walk_none, walk_some}
 use Rattle.walks.specs.declared.Step.TheVariants.{Decides, Leaves}
 use Rattle.walks.specs.Walks.{decided, outcome_of, after}
 use Rattle.walks.proofs.+walk_chain_walk_rule.Goals as goal
 
 pub walk_chain-returns-then-depth-eq0 : goal.walk_chain-returns-then-depth-eq0
 walk_chain-returns-then-depth-eq0 t c = λ b k lt. walk_none b _ _ _ c.if-depth-eq0.true
+
+pub walk_chain-loop-i-init : goal.walk_chain-loop-i-init
+walk_chain-loop-i-init t c = λ b k lt. left_all k _ lt _ _
 
 -- the rule is one of the book that is kept there
 pub walk_chain-walk_rule-requires : goal.walk_chain-walk_rule-requires
