@@ -27,13 +27,15 @@ fn write_rule(
     ensures written { words.new ≡ put words.old at (entry action number.0 conditions.now) }
 {
     let count = conditions.len();
-    let from = at + 3;
-    let to = from + count;
     words[at] = action;
     words[at + 1] = number.0;
     words[at + 2] = count as u32;
-    words[from..to].copy_from_slice(conditions);
-    to
+    let from = at + 3;
+    // word by word: the library's copy would need `memmove` of whoever links the exports
+    for i in 0..count {
+        words[from + i] = conditions[i];
+    }
+    from + count
 }
 
 // A chain's rules under the first n conditions of ctx. The depth falls at each call; without loops a chain's rank, the count of
