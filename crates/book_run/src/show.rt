@@ -30,68 +30,57 @@ fn rule(rt: &HostRuntime, i: usize, noted: NotedRule) -> io::Result<()> {
 }
 
 // The policy, the first rule of each chain, and the rules from a number on.
-fn whole(rt: &HostRuntime, contents: &Contents, from: usize) -> io::Result<()>
+fn whole(rt: &HostRuntime, contents: &Contents, from: usize)
     requires chains { contents.now.chains ≤ chains_most }
     requires rules { contents.now.rules ≤ rules_most }
 {
-    print!(rt; " | policy {} | first", contents.policy.number())?;
+    let _ = print!(rt; " | policy {} | first", contents.policy.number());
     for first in &contents.first[..contents.chains] {
-        print!(rt; " {first}")?;
+        let _ = print!(rt; " {first}");
     }
     for i in from..contents.rules {
-        rule(rt, i, contents.noted[i])?;
+        let _ = rule(rt, i, contents.noted[i]);
     }
-    Ok(())
 }
 
 // Of a book that is read the counts, and from which rule on the rest is shown, if it is.
-pub fn show(rt: &HostRuntime, name: &str, book: &[u8], from: Option<usize>) -> io::Result<()> {
+pub fn show(rt: &HostRuntime, name: &str, book: &[u8], from: Option<usize>) {
     match check(book) {
         Ok(checked) => {
             let contents = checked.contents;
-            print!(rt;
+            let _ = print!(rt;
                 "{name}: chains {} rules {}",
                 contents.chains, contents.rules
-            )?;
+            );
             if let Some(from) = from {
-                whole(rt, &contents, from)?;
+                whole(rt, &contents, from);
             }
-            println!(rt; "")
+            let _ = println!(rt; "");
         }
-        Err(refusal) => println!(rt; "{name}: {refusal}"),
+        Err(refusal) => {
+            let _ = println!(rt; "{name}: {refusal}");
+        }
     }
 }
 
 // The book that is written in the first n bytes of a buffer.
-pub fn show_part(
-    rt: &HostRuntime,
-    name: &str,
-    b: &[u8],
-    n: usize,
-    from: Option<usize>,
-) -> io::Result<()> {
-    match b.get(..n) {
-        Some(book) => show(rt, name, book, from),
-        None => Ok(()),
+pub fn show_part(rt: &HostRuntime, name: &str, b: &[u8], n: usize, from: Option<usize>) {
+    if let Some(book) = b.get(..n) {
+        show(rt, name, book, from);
     }
 }
 
-pub fn show_all(rt: &HostRuntime, cases: &[(&str, &[u8], Option<usize>)]) -> io::Result<()> {
+pub fn show_all(rt: &HostRuntime, cases: &[(&str, &[u8], Option<usize>)]) {
     for &(name, book, from) in cases {
-        show(rt, name, book, from)?;
+        show(rt, name, book, from);
     }
-    Ok(())
 }
 
 // Books of n bytes: those given, and zeros.
-pub fn show_filled(
-    rt: &HostRuntime,
-    cases: &[(&str, &[u8], usize, Option<usize>)],
-) -> io::Result<()> {
+pub fn show_filled(rt: &HostRuntime, cases: &[(&str, &[u8], usize, Option<usize>)]) {
     for &(name, head, n, from) in cases {
         let mut b = [0u8; 65536];
         bytes(&mut b, 0, head);
-        show_part(rt, name, &b, n, from)?;
+        show_part(rt, name, &b, n, from);
     }
-    Ok(())
 }
