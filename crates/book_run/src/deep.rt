@@ -1,22 +1,20 @@
 // Levels, and the count of kinds 3.
 use crate::put::{byte, bytes, repeat};
 use crate::show::show_part;
-use std::io;
 
 // Rule 0's expression, under some negations.
-fn negated(rt: &HostRuntime, cases: &[(&str, usize, &[u8])]) -> io::Result<()> {
+fn negated(rt: &HostRuntime, cases: &[(&str, usize, &[u8])]) {
     for &(name, negations, rest) in cases {
         let mut b = [0u8; 64];
         let mut at = bytes(&mut b, 0, b"\x01\x01\x00\x01\x00");
         at = repeat(&mut b, at, b"\x01", negations);
         at = bytes(&mut b, at, rest);
-        show_part(rt, name, &b, at, Some(0))?;
+        show_part(rt, name, &b, at, Some(0));
     }
-    Ok(())
 }
 
 // A level is judged before its kind is read.
-fn levels(rt: &HostRuntime) -> io::Result<()> {
+fn levels(rt: &HostRuntime) {
     negated(
         rt,
         &[
@@ -46,23 +44,22 @@ fn levels(rt: &HostRuntime) -> io::Result<()> {
             ("kind 2 at level 16, count 17", 15, b"\x02\x11\x00"),
             ("kind 2 at level 17", 16, b"\x02\x01"),
         ],
-    )
+    );
 }
 
 // Some conjunctions, each the last operand of the one around it or the first, and as many evers as stand behind them.
-fn conjunctions(rt: &HostRuntime, cases: &[(&str, &[u8], usize, usize)]) -> io::Result<()> {
+fn conjunctions(rt: &HostRuntime, cases: &[(&str, &[u8], usize, usize)]) {
     for &(name, opening, n, behind) in cases {
         let mut b = [0u8; 64];
         let mut at = bytes(&mut b, 0, b"\x01\x01\x00\x01\x00");
         at = repeat(&mut b, at, opening, n);
         at = repeat(&mut b, at, b"\x00", behind);
-        show_part(rt, name, &b, at, Some(0))?;
+        show_part(rt, name, &b, at, Some(0));
     }
-    Ok(())
 }
 
 // Two operands side by side, each under some negations: the second one's level does not rest on the first one's.
-fn beside(rt: &HostRuntime, cases: &[(&str, usize, usize)]) -> io::Result<()> {
+fn beside(rt: &HostRuntime, cases: &[(&str, usize, usize)]) {
     for &(name, first, second) in cases {
         let mut b = [0u8; 64];
         let mut at = bytes(&mut b, 0, b"\x01\x01\x00\x01\x00\x02\x02");
@@ -70,12 +67,11 @@ fn beside(rt: &HostRuntime, cases: &[(&str, usize, usize)]) -> io::Result<()> {
         at = bytes(&mut b, at, b"\x00");
         at = repeat(&mut b, at, b"\x01", second);
         at = bytes(&mut b, at, b"\x00");
-        show_part(rt, name, &b, at, Some(0))?;
+        show_part(rt, name, &b, at, Some(0));
     }
-    Ok(())
 }
 
-fn operand_levels(rt: &HostRuntime) -> io::Result<()> {
+fn operand_levels(rt: &HostRuntime) {
     conjunctions(
         rt,
         &[
@@ -104,7 +100,7 @@ fn operand_levels(rt: &HostRuntime) -> io::Result<()> {
                 17,
             ),
         ],
-    )?;
+    );
     beside(
         rt,
         &[
@@ -112,11 +108,11 @@ fn operand_levels(rt: &HostRuntime) -> io::Result<()> {
             ("level 17 in the first operand", 15, 14),
             ("level 17 in the second operand", 14, 15),
         ],
-    )
+    );
 }
 
 // The count of rules, 32 rules with 16 kinds 3 each, or others, and what is to follow them.
-fn after_sources(rt: &HostRuntime, cases: &[(&str, u8, &[u8], &[u8])]) -> io::Result<()> {
+fn after_sources(rt: &HostRuntime, cases: &[(&str, u8, &[u8], &[u8])]) {
     for &(name, rules, source, rest) in cases {
         let mut b = [0u8; 2048];
         let mut at = bytes(&mut b, 0, b"\x01\x01\x00");
@@ -126,12 +122,11 @@ fn after_sources(rt: &HostRuntime, cases: &[(&str, u8, &[u8], &[u8])]) -> io::Re
             at = repeat(&mut b, at, source, 16);
         }
         at = bytes(&mut b, at, rest);
-        show_part(rt, name, &b, at, Some(31))?;
+        show_part(rt, name, &b, at, Some(31));
     }
-    Ok(())
 }
 
-fn sources(rt: &HostRuntime) -> io::Result<()> {
+fn sources(rt: &HostRuntime) {
     after_sources(
         rt,
         &[
@@ -196,11 +191,11 @@ fn sources(rt: &HostRuntime) -> io::Result<()> {
                 b"\x00\x01\x01\x01\x01\x01\x01\x01\x01\x01\x01\x01\x01\x01\x01\x01\x01\x03\x00\x09",
             ),
         ],
-    )
+    );
 }
 
 // Kinds 3 count in all chains, called or not.
-fn chains_of_sources(rt: &HostRuntime, cases: &[(&str, &[u8])]) -> io::Result<()> {
+fn chains_of_sources(rt: &HostRuntime, cases: &[(&str, &[u8])]) {
     for &(name, rest) in cases {
         let mut b = [0u8; 2304];
         let mut at = bytes(&mut b, 0, b"\x01\x03\x00");
@@ -209,20 +204,19 @@ fn chains_of_sources(rt: &HostRuntime, cases: &[(&str, &[u8])]) -> io::Result<()
             at = repeat(&mut b, at, b"\x00\x03\x00\x09", 256);
         }
         at = bytes(&mut b, at, rest);
-        show_part(rt, name, &b, at, None)?;
+        show_part(rt, name, &b, at, None);
     }
-    Ok(())
 }
 
-pub fn all(rt: &HostRuntime) -> io::Result<()> {
-    levels(rt)?;
-    operand_levels(rt)?;
-    sources(rt)?;
+pub fn all(rt: &HostRuntime) {
+    levels(rt);
+    operand_levels(rt);
+    sources(rt);
     chains_of_sources(
         rt,
         &[
             ("512 kinds 3 in two chains", b"\x00"),
             ("513th kind 3 in a third", b"\x01\x00\x03\x00\x09"),
         ],
-    )
+    );
 }

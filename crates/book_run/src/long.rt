@@ -1,22 +1,20 @@
 // Counts of rules, and the length of a book.
 use crate::put::{byte, bytes, repeat};
 use crate::show::{show, show_filled, show_part};
-use std::io;
 
 // One chain: the count of its rules as it is written, and accepts of all.
-fn one_chain(rt: &HostRuntime, cases: &[(&str, &[u8], usize)]) -> io::Result<()> {
+fn one_chain(rt: &HostRuntime, cases: &[(&str, &[u8], usize)]) {
     for &(name, count, rules) in cases {
         let mut b = [0u8; 2304];
         let mut at = bytes(&mut b, 0, b"\x01\x01\x00");
         at = bytes(&mut b, at, count);
         at = repeat(&mut b, at, b"\x00\x00", rules);
-        show_part(rt, name, &b, at, Some(1022))?;
+        show_part(rt, name, &b, at, Some(1022));
     }
-    Ok(())
 }
 
 // Two chains of accepts of all.
-fn two_chains(rt: &HostRuntime, cases: &[(&str, &[u8], usize, &[u8], usize)]) -> io::Result<()> {
+fn two_chains(rt: &HostRuntime, cases: &[(&str, &[u8], usize, &[u8], usize)]) {
     for &(name, one, rules, other, others) in cases {
         let mut b = [0u8; 2304];
         let mut at = bytes(&mut b, 0, b"\x01\x02\x00");
@@ -24,13 +22,12 @@ fn two_chains(rt: &HostRuntime, cases: &[(&str, &[u8], usize, &[u8], usize)]) ->
         at = repeat(&mut b, at, b"\x00\x00", rules);
         at = bytes(&mut b, at, other);
         at = repeat(&mut b, at, b"\x00\x00", others);
-        show_part(rt, name, &b, at, Some(1023))?;
+        show_part(rt, name, &b, at, Some(1023));
     }
-    Ok(())
 }
 
 // 63 chains of 16 rules, and a last one.
-fn sixteens(rt: &HostRuntime, cases: &[(&str, u8, usize)]) -> io::Result<()> {
+fn sixteens(rt: &HostRuntime, cases: &[(&str, u8, usize)]) {
     for &(name, count, rules) in cases {
         let mut b = [0u8; 2304];
         let mut at = bytes(&mut b, 0, b"\x01\x40\x00");
@@ -40,12 +37,11 @@ fn sixteens(rt: &HostRuntime, cases: &[(&str, u8, usize)]) -> io::Result<()> {
         }
         at = byte(&mut b, at, count);
         at = repeat(&mut b, at, b"\x00\x00", rules);
-        show_part(rt, name, &b, at, Some(1023))?;
+        show_part(rt, name, &b, at, Some(1023));
     }
-    Ok(())
 }
 
-fn counts(rt: &HostRuntime) -> io::Result<()> {
+fn counts(rt: &HostRuntime) {
     one_chain(
         rt,
         &[
@@ -58,7 +54,7 @@ fn counts(rt: &HostRuntime) -> io::Result<()> {
             ("count of rules cut", b"\x80", 0),
             ("count of rules not shortest", b"\x81\x00", 1),
         ],
-    )?;
+    );
     two_chains(
         rt,
         &[
@@ -70,7 +66,7 @@ fn counts(rt: &HostRuntime) -> io::Result<()> {
             ("0 and 1025 rules", b"\x00", 0, b"\x81\x08", 1025),
             ("1 and 1024 rules", b"\x01", 1, b"\x80\x08", 1024),
         ],
-    )?;
+    );
     sixteens(
         rt,
         &[
@@ -78,11 +74,11 @@ fn counts(rt: &HostRuntime) -> io::Result<()> {
             ("64 chains, the last of 17 rules", 17, 17),
             ("64 chains of 16 rules, one more there", 16, 17),
         ],
-    )
+    );
 }
 
 // 366 rules of 179 bytes and 8 of 2 bytes, behind 5 bytes: 65,535 bytes.
-fn longest(rt: &HostRuntime) -> io::Result<()> {
+fn longest(rt: &HostRuntime) {
     let mut b = [0u8; 65536];
     let mut at = bytes(&mut b, 0, b"\x01\x01\x00\xF6\x02");
     for _ in 0..366 {
@@ -95,12 +91,12 @@ fn longest(rt: &HostRuntime) -> io::Result<()> {
         );
     }
     repeat(&mut b, at, b"\x00\x00", 8);
-    show_part(rt, "65535 bytes", &b, 65535, Some(365))?;
-    show_part(rt, "65535 bytes, the last missing", &b, 65534, None)?;
-    show(rt, "65536 bytes", &b, None)
+    show_part(rt, "65535 bytes", &b, 65535, Some(365));
+    show_part(rt, "65535 bytes, the last missing", &b, 65534, None);
+    show(rt, "65536 bytes", &b, None);
 }
 
-fn extra(rt: &HostRuntime) -> io::Result<()> {
+fn extra(rt: &HostRuntime) {
     show_filled(
         rt,
         &[
@@ -119,11 +115,11 @@ fn extra(rt: &HostRuntime) -> io::Result<()> {
                 None,
             ),
         ],
-    )
+    );
 }
 
-pub fn all(rt: &HostRuntime) -> io::Result<()> {
-    counts(rt)?;
-    longest(rt)?;
-    extra(rt)
+pub fn all(rt: &HostRuntime) {
+    counts(rt);
+    longest(rt);
+    extra(rt);
 }

@@ -1,8 +1,6 @@
 // Checks books, each boundary of document 01 among them, and writes what was found: the counts, or the refusal.
 #![tactic(auto)]
 
-use std::io;
-
 mod deep;
 mod header;
 mod long;
@@ -13,12 +11,13 @@ mod show;
 mod webs;
 mod weights;
 
-fn main(rt: HostRuntime) -> io::Result<()> {
-    header::all(&rt)?;
-    rules::all(&rt)?;
-    deep::all(&rt)?;
-    long::all(&rt)?;
-    loops::all(&rt)?;
-    weights::all(&rt)?;
-    webs::all(&rt)
+// A print that fails is left off: each of the others is tried, and the status is 0.
+fn main(rt: HostRuntime) {
+    header::all(&rt);
+    rules::all(&rt);
+    deep::all(&rt);
+    long::all(&rt);
+    loops::all(&rt);
+    weights::all(&rt);
+    webs::all(&rt);
 }

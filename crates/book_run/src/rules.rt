@@ -1,8 +1,7 @@
 // Actions, called chains, kinds and their fields.
 use crate::show::{show_all, show_filled};
-use std::io;
 
-fn actions(rt: &HostRuntime) -> io::Result<()> {
+fn actions(rt: &HostRuntime) {
     show_all(
         rt,
         &[
@@ -72,10 +71,10 @@ fn actions(rt: &HostRuntime) -> io::Result<()> {
                 None,
             ),
         ],
-    )
+    );
 }
 
-fn called_of_64(rt: &HostRuntime) -> io::Result<()> {
+fn called_of_64(rt: &HostRuntime) {
     show_filled(
         rt,
         &[
@@ -92,10 +91,10 @@ fn called_of_64(rt: &HostRuntime) -> io::Result<()> {
                 None,
             ),
         ],
-    )
+    );
 }
 
-fn kinds(rt: &HostRuntime) -> io::Result<()> {
+fn kinds(rt: &HostRuntime) {
     show_all(
         rt,
         &[
@@ -148,10 +147,10 @@ fn kinds(rt: &HostRuntime) -> io::Result<()> {
                 None,
             ),
         ],
-    )
+    );
 }
 
-fn many_operands(rt: &HostRuntime) -> io::Result<()> {
+fn many_operands(rt: &HostRuntime) {
     show_filled(
         rt,
         &[
@@ -170,10 +169,10 @@ fn many_operands(rt: &HostRuntime) -> io::Result<()> {
                 None,
             ),
         ],
-    )
+    );
 }
 
-fn fields(rt: &HostRuntime) -> io::Result<()> {
+fn fields(rt: &HostRuntime) {
     show_all(
         rt,
         &[
@@ -260,13 +259,13 @@ fn fields(rt: &HostRuntime) -> io::Result<()> {
                 None,
             ),
         ],
-    )
+    );
 }
 
-pub fn all(rt: &HostRuntime) -> io::Result<()> {
-    actions(rt)?;
-    called_of_64(rt)?;
-    kinds(rt)?;
-    many_operands(rt)?;
-    fields(rt)
+pub fn all(rt: &HostRuntime) {
+    actions(rt);
+    called_of_64(rt);
+    kinds(rt);
+    many_operands(rt);
+    fields(rt);
 }

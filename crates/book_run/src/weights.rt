@@ -1,11 +1,10 @@
 // The weight of the entry: 16,384 is accepted.
 use crate::put::{byte, bytes, calls, repeat};
 use crate::show::show_part;
-use std::io;
 
 // The entry calls chain 1 16 times and has more, chain 1 calls chain 2 31 times, chain 2 has 32 plain rules: without more,
 // 16 * (1 + 31 * (1 + 32)) = 16,384. Chain 3 is as given.
-fn nest(rt: &HostRuntime, cases: &[(&str, u8, &[u8], &[u8], &[u8])]) -> io::Result<()> {
+fn nest(rt: &HostRuntime, cases: &[(&str, u8, &[u8], &[u8], &[u8])]) {
     for &(name, count, more, plain, rest) in cases {
         let mut b = [0u8; 512];
         let mut at = bytes(&mut b, 0, b"\x01\x04\x00");
@@ -17,12 +16,11 @@ fn nest(rt: &HostRuntime, cases: &[(&str, u8, &[u8], &[u8], &[u8])]) -> io::Resu
         at = byte(&mut b, at, 32);
         at = repeat(&mut b, at, plain, 32);
         at = bytes(&mut b, at, rest);
-        show_part(rt, name, &b, at, None)?;
+        show_part(rt, name, &b, at, None);
     }
-    Ok(())
 }
 
-fn nests(rt: &HostRuntime) -> io::Result<()> {
+fn nests(rt: &HostRuntime) {
     nest(
         rt,
         &[
@@ -111,12 +109,12 @@ fn nests(rt: &HostRuntime) -> io::Result<()> {
                 b"\x01\x06\x03\x00",
             ),
         ],
-    )
+    );
 }
 
 // Each chain but the last, which is empty, calls the next twice, and the entry has more rules. With n chains and m more rules the
 // entry weighs 2^n - 2 + m: with 2 more it is 0 in n bits.
-fn doubling(rt: &HostRuntime, cases: &[(&str, &[u8], u8, usize)]) -> io::Result<()> {
+fn doubling(rt: &HostRuntime, cases: &[(&str, &[u8], u8, usize)]) {
     for &(name, head, chains, more) in cases {
         let mut b = [0u8; 1024];
         let mut at = bytes(&mut b, 0, head);
@@ -127,14 +125,13 @@ fn doubling(rt: &HostRuntime, cases: &[(&str, &[u8], u8, usize)]) -> io::Result<
             at = calls(&mut b, at, called, 2);
         }
         at = byte(&mut b, at, 0);
-        show_part(rt, name, &b, at, None)?;
+        show_part(rt, name, &b, at, None);
     }
-    Ok(())
 }
 
 // Chains 1 to 62 call the next 16 times, chain 63 has 16 rules, and the entry is as given. Chain 1 weighs above 16^62; chains 63, 62,
 // 61 and 60 weigh 16, 272, 4,368 and 69,904.
-fn power(rt: &HostRuntime, cases: &[(&str, &[u8])]) -> io::Result<()> {
+fn power(rt: &HostRuntime, cases: &[(&str, &[u8])]) {
     for &(name, entry) in cases {
         let mut b = [0u8; 4096];
         let mut at = bytes(&mut b, 0, b"\x01\x40\x00");
@@ -145,13 +142,12 @@ fn power(rt: &HostRuntime, cases: &[(&str, &[u8])]) -> io::Result<()> {
         }
         at = byte(&mut b, at, 16);
         at = repeat(&mut b, at, b"\x00\x00", 16);
-        show_part(rt, name, &b, at, None)?;
+        show_part(rt, name, &b, at, None);
     }
-    Ok(())
 }
 
-pub fn all(rt: &HostRuntime) -> io::Result<()> {
-    nests(rt)?;
+pub fn all(rt: &HostRuntime) {
+    nests(rt);
     doubling(
         rt,
         &[
@@ -164,7 +160,7 @@ pub fn all(rt: &HostRuntime) -> io::Result<()> {
             ("weight 2^64", b"\x01\x40\x00\x04", 64, 2),
             ("weight 2^64 + 1", b"\x01\x40\x00\x05", 64, 3),
         ],
-    )?;
+    );
     power(
         rt,
         &[
@@ -181,5 +177,5 @@ pub fn all(rt: &HostRuntime) -> io::Result<()> {
             ),
             ("the entry calls a chain of 69904", b"\x01\x06\x3C\x00"),
         ],
-    )
+    );
 }

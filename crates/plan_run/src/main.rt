@@ -15,11 +15,10 @@ fn show(rt: &HostRuntime, name: &str, plan: &[u8]) -> io::Result<()> {
     }
 }
 
-fn show_all(rt: &HostRuntime, cases: &[(&str, &[u8])]) -> io::Result<()> {
+fn show_all(rt: &HostRuntime, cases: &[(&str, &[u8])]) {
     for &(name, plan) in cases {
-        show(rt, name, plan)?;
+        let _ = show(rt, name, plan);
     }
-    Ok(())
 }
 
 fn place_of(plan: &[u8], port: u32) -> Result<usize, Refusal> {
@@ -35,15 +34,14 @@ fn ask(rt: &HostRuntime, plan: &[u8], port: u32) -> io::Result<()> {
     }
 }
 
-fn ask_all(rt: &HostRuntime, cases: &[(&[u8], u32)]) -> io::Result<()> {
+fn ask_all(rt: &HostRuntime, cases: &[(&[u8], u32)]) {
     for &(plan, port) in cases {
-        ask(rt, plan, port)?;
+        let _ = ask(rt, plan, port);
     }
-    Ok(())
 }
 
 // The edition and the count of ports.
-fn editions(rt: &HostRuntime) -> io::Result<()> {
+fn editions(rt: &HostRuntime) {
     show_all(
         rt,
         &[
@@ -54,7 +52,7 @@ fn editions(rt: &HostRuntime) -> io::Result<()> {
             ("edition not shortest", b"\x81\x00\x00"),
             ("count cut", b"\x01\x80"),
         ],
-    )
+    );
 }
 
 // Ports in their order, none with ranges.
@@ -72,7 +70,7 @@ fn show_ports(rt: &HostRuntime, name: &str, ports: u8) -> io::Result<()> {
 }
 
 // Numbers of ports, and what is missing.
-fn ports(rt: &HostRuntime) -> io::Result<()> {
+fn ports(rt: &HostRuntime) {
     show_all(
         rt,
         &[
@@ -83,7 +81,7 @@ fn ports(rt: &HostRuntime) -> io::Result<()> {
             ("port falls", b"\x01\x02\x03\x00\x02\x00"),
             ("count of ranges missing", b"\x01\x01\x00"),
         ],
-    )
+    );
 }
 
 // 64 ranges of one address each, two apart.
@@ -101,7 +99,7 @@ fn many_ranges(rt: &HostRuntime) -> io::Result<()> {
 }
 
 // The count of ranges, and the low and the high of a range, and the high before, up to the greatest address.
-fn ranges(rt: &HostRuntime) -> io::Result<()> {
+fn ranges(rt: &HostRuntime) {
     show_all(
         rt,
         &[
@@ -143,11 +141,11 @@ fn ranges(rt: &HostRuntime) -> io::Result<()> {
                 b"\x01\x01\x00\x01\x00\xFF\xFF\xFF\xFF\x10",
             ),
         ],
-    )
+    );
 }
 
 // What follows, and the plan of C2.
-fn ends(rt: &HostRuntime) -> io::Result<()> {
+fn ends(rt: &HostRuntime) {
     show_all(
         rt,
         &[
@@ -162,33 +160,34 @@ fn ends(rt: &HostRuntime) -> io::Result<()> {
                 b"\x01\x02\x00\x01\x80\x80\xA0\x85\x0C\xFF\x81\xA0\x85\x0C\x01\x00",
             ),
         ],
-    )
+    );
 }
 
-fn long_plans(rt: &HostRuntime) -> io::Result<()> {
+fn long_plans(rt: &HostRuntime) {
     let mut long = [0u8; 32769];
     long[0] = 1;
-    show(rt, "32769 bytes", &long)?;
-    show(rt, "32768 bytes", &long[..32768])
+    let _ = show(rt, "32769 bytes", &long);
+    let _ = show(rt, "32768 bytes", &long[..32768]);
 }
 
 // Ports of C2's plan, and one of a plan without ports.
-fn asked(rt: &HostRuntime) -> io::Result<()> {
+fn asked(rt: &HostRuntime) {
     let c2 = b"\x01\x02\x00\x01\x80\x80\xA0\x85\x0C\xFF\x81\xA0\x85\x0C\x01\x00";
     ask_all(
         rt,
         &[(c2, 0), (c2, 1), (c2, 2), (c2, 4000), (b"\x01\x00", 0)],
-    )
+    );
 }
 
-fn main(rt: HostRuntime) -> io::Result<()> {
-    editions(&rt)?;
-    show_ports(&rt, "32 ports", 32)?;
-    show_ports(&rt, "33 ports", 33)?;
-    ports(&rt)?;
-    many_ranges(&rt)?;
-    ranges(&rt)?;
-    ends(&rt)?;
-    long_plans(&rt)?;
-    asked(&rt)
+// A print that fails is left off: each of the others is tried, and the status is 0.
+fn main(rt: HostRuntime) {
+    editions(&rt);
+    let _ = show_ports(&rt, "32 ports", 32);
+    let _ = show_ports(&rt, "33 ports", 33);
+    ports(&rt);
+    let _ = many_ranges(&rt);
+    ranges(&rt);
+    ends(&rt);
+    long_plans(&rt);
+    asked(&rt);
 }

@@ -77,7 +77,8 @@ pub fn read_pair(book: &[u8], at: usize, levels: u32, sources: u32) -> Pair
     ensures expression { (rules : ℕ) → told result.expression ≡ expression_at levels sources rules book.now (past_number at result.number) }
     ensures next { result.next ≡ past_expression (past_number at result.number) result.expression }
 {
-    let mut r = Reader { book, at };
+    let mut r = start(book);
+    r.at = at;
     let number = next_number(&mut r);
     let expression = next_expression(&mut r, levels, sources);
     Pair {

@@ -18,7 +18,7 @@ use refusals::{Fault, Refusal};
 use review::Reviewed;
 use review::beginning::port_suspects;
 use review::whole::review_list;
-use text::put_text;
+use text::push_text;
 
 mod lines;
 
@@ -76,7 +76,7 @@ fn write_report(book: &[u8], plan: &[u8], words: &mut [u32], text: &mut Text)
     ensures text { text.new.items ≡ reportText book.now plan.now (length words.old) }
     ensures lent { words.new ≡ words_after (report_entry book.now plan.now (length words.old)) book.now words.old }
 {
-    put_text(text, b"spoof report 1\n");
+    push_text(text, b"spoof report 1\n");
     if let Err(refusal) = put_body(book, plan, words, text) {
         put_refusal(text, refusal);
     }

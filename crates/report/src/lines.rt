@@ -13,19 +13,19 @@ use crate::Text;
 use book::RuleNumber;
 use refusals::Refusal;
 use review::Reviewed;
-use text::{put_decimal, put_dotted, put_text};
+use text::{push_decimal, push_dotted, push_text};
 
 pub fn put_verdict(text: &mut Text, reviewed: Reviewed)
     requires { array_vec_len text.old + verdict_most ≤ buffer_bytes }
     ensures { text.new.items ≡ text.old.items ++ verdict_text (phase_told reviewed) }
 {
     match reviewed {
-        Reviewed::Certified => put_text(text, b" certified"),
+        Reviewed::Certified => push_text(text, b" certified"),
         Reviewed::Refused(RuleNumber(rule), source) => {
-            put_text(text, b" refused rule ");
-            put_decimal(text, rule as usize);
-            put_text(text, b" source ");
-            put_dotted(text, source);
+            push_text(text, b" refused rule ");
+            push_decimal(text, rule as usize);
+            push_text(text, b" source ");
+            push_dotted(text, source);
         }
     }
 }
@@ -34,8 +34,8 @@ pub fn put_port(text: &mut Text, number: u32, reviewed: Reviewed)
     requires { array_vec_len text.old + line_most ≤ buffer_bytes }
     ensures { text.new.items ≡ text.old.items ++ port_text number (phase_told reviewed) }
 {
-    put_text(text, b"port ");
-    put_decimal(text, number as usize);
+    push_text(text, b"port ");
+    push_decimal(text, number as usize);
     put_verdict(text, reviewed);
     end_line(text);
 }
@@ -44,10 +44,10 @@ pub fn put_counts(text: &mut Text, rules: usize, list: usize)
     requires { array_vec_len text.old + counts_most ≤ buffer_bytes }
     ensures { text.new.items ≡ text.old.items ++ counts_text rules list }
 {
-    put_text(text, b"rules ");
-    put_decimal(text, rules);
-    put_text(text, b" list ");
-    put_decimal(text, list);
+    push_text(text, b"rules ");
+    push_decimal(text, rules);
+    push_text(text, b" list ");
+    push_decimal(text, list);
     end_line(text);
 }
 
@@ -55,10 +55,10 @@ pub fn put_refusal(text: &mut Text, refusal: Refusal)
     requires { array_vec_len text.old + refusal_most ≤ buffer_bytes }
     ensures { text.new.items ≡ text.old.items ++ refusal_text (number_of refusal.fault) refusal.place }
 {
-    put_text(text, b"refused ");
-    put_decimal(text, refusal.fault.number() as usize);
-    put_text(text, b" place ");
-    put_decimal(text, refusal.place);
+    push_text(text, b"refused ");
+    push_decimal(text, refusal.fault.number() as usize);
+    push_text(text, b" place ");
+    push_decimal(text, refusal.place);
     end_line(text);
 }
 

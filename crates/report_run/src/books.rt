@@ -1,22 +1,20 @@
 // Books that are refused, by each of the refusals 1 to 10, beside some that just pass.
 use crate::put::{bytes, doubling};
 use crate::show::{report_books, reported};
-use std::io;
 
 // Books of n bytes: those given, and then all of one value.
-fn filled(rt: &HostRuntime, plan: &[u8], cases: &[(&str, &[u8], u8, usize)]) -> io::Result<()> {
+fn filled(rt: &HostRuntime, plan: &[u8], cases: &[(&str, &[u8], u8, usize)]) {
     for &(name, head, value, n) in cases {
         let mut b = [value; 65536];
         bytes(&mut b, 0, head);
         if let Some(book) = b.get(..n) {
-            reported(rt, name, book, plan)?;
+            reported(rt, name, book, plan);
         }
     }
-    Ok(())
 }
 
 // Refusal 1 by the length, whatever the bytes; a byte less is read.
-fn lengths(rt: &HostRuntime, plan: &[u8]) -> io::Result<()> {
+fn lengths(rt: &HostRuntime, plan: &[u8]) {
     filled(
         rt,
         plan,
@@ -36,10 +34,10 @@ fn lengths(rt: &HostRuntime, plan: &[u8]) -> io::Result<()> {
                 65535,
             ),
         ],
-    )
+    );
 }
 
-fn unread(rt: &HostRuntime, plan: &[u8]) -> io::Result<()> {
+fn unread(rt: &HostRuntime, plan: &[u8]) {
     report_books(
         rt,
         plan,
@@ -85,11 +83,11 @@ fn unread(rt: &HostRuntime, plan: &[u8]) -> io::Result<()> {
                 b"\x01\x01\x01\x01\x00\x01\x01\x01\x01\x01\x01\x01\x01\x01\x01\x01\x01\x01\x01\x01\x01\x00",
             ),
         ],
-    )
+    );
 }
 
 // Refusal 7: bytes of 3 are rules that log the source 3.
-fn sources(rt: &HostRuntime, plan: &[u8]) -> io::Result<()> {
+fn sources(rt: &HostRuntime, plan: &[u8]) {
     filled(
         rt,
         plan,
@@ -97,11 +95,11 @@ fn sources(rt: &HostRuntime, plan: &[u8]) -> io::Result<()> {
             ("512 kinds 3", b"\x01\x01\x01\x80\x04", 3, 2053),
             ("513 kinds 3", b"\x01\x01\x01\x81\x04", 3, 2057),
         ],
-    )
+    );
 }
 
 // Refusal 8, before 9; and refusal 9: chain 1 leads to a loop and is not on it.
-fn behind(rt: &HostRuntime, plan: &[u8]) -> io::Result<()> {
+fn behind(rt: &HostRuntime, plan: &[u8]) {
     report_books(
         rt,
         plan,
@@ -120,31 +118,30 @@ fn behind(rt: &HostRuntime, plan: &[u8]) -> io::Result<()> {
                 b"\x01\x05\x01\x01\x06\x01\x00\x01\x06\x04\x00\x01\x06\x03\x00\x01\x06\x02\x00\x01\x06\x04\x00",
             ),
         ],
-    )
+    );
 }
 
 // The loop is in a chain that nothing calls.
-fn last_loop(rt: &HostRuntime, plan: &[u8]) -> io::Result<()> {
+fn last_loop(rt: &HostRuntime, plan: &[u8]) {
     let mut b = [0u8; 70];
     bytes(&mut b, 0, b"\x01\x40");
     bytes(&mut b, 66, b"\x01\x06\x3F");
-    reported(rt, "chain 63 of 64 calls itself", &b, plan)
+    reported(rt, "chain 63 of 64 calls itself", &b, plan);
 }
 
 // Refusal 10: chains 0 to 11 call the next twice, chain 12 and the entry have two logs more: 2^14. Then an accept more, and a chain that
 // calls itself. The entry, chain 12 and what is behind it, and the plan.
-fn weights(rt: &HostRuntime, cases: &[(&str, &[u8], &[u8], &[u8])]) -> io::Result<()> {
+fn weights(rt: &HostRuntime, cases: &[(&str, &[u8], &[u8], &[u8])]) {
     for &(name, entry, last, plan) in cases {
         let mut b = [0u8; 128];
         let n = doubling(&mut b, 0, entry, 13, last);
         if let Some(book) = b.get(..n) {
-            reported(rt, name, book, plan)?;
+            reported(rt, name, book, plan);
         }
     }
-    Ok(())
 }
 
-fn heavy(rt: &HostRuntime, plan: &[u8]) -> io::Result<()> {
+fn heavy(rt: &HostRuntime, plan: &[u8]) {
     let fine = b"\x01\x0D\x01\x04\x06\x01\x00\x06\x01\x00\x03\x00\x03\x00";
     let heavy = b"\x01\x0D\x01\x05\x06\x01\x00\x06\x01\x00\x03\x00\x03\x00\x00\x00";
     let looping = b"\x01\x0E\x01\x05\x06\x01\x00\x06\x01\x00\x03\x00\x03\x00\x00\x00";
@@ -161,14 +158,14 @@ fn heavy(rt: &HostRuntime, plan: &[u8]) -> io::Result<()> {
                 plan,
             ),
         ],
-    )
+    );
 }
 
-pub fn all(rt: &HostRuntime, plan: &[u8]) -> io::Result<()> {
-    lengths(rt, plan)?;
-    unread(rt, plan)?;
-    sources(rt, plan)?;
-    behind(rt, plan)?;
-    last_loop(rt, plan)?;
-    heavy(rt, plan)
+pub fn all(rt: &HostRuntime, plan: &[u8]) {
+    lengths(rt, plan);
+    unread(rt, plan);
+    sources(rt, plan);
+    behind(rt, plan);
+    last_loop(rt, plan);
+    heavy(rt, plan);
 }

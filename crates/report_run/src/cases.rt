@@ -1,9 +1,8 @@
 // Document 01's cases, and four books that tell a negation and a return.
 use crate::show::{report_all, report_books};
-use std::io;
 
 // C2's book is C1.
-pub fn c2_to_c7(rt: &HostRuntime, plan: &[u8]) -> io::Result<()> {
+pub fn c2_to_c7(rt: &HostRuntime, plan: &[u8]) {
     report_books(
         rt,
         plan,
@@ -33,11 +32,11 @@ pub fn c2_to_c7(rt: &HostRuntime, plan: &[u8]) -> io::Result<()> {
                 b"\x01\x04\x01\x00\x01\x06\x02\x00\x01\x06\x03\x00\x01\x06\x02\x00",
             ),
         ],
-    )
+    );
 }
 
 // C8, and the books of negations and returns.
-pub fn c8_and_returns(rt: &HostRuntime, plan: &[u8]) -> io::Result<()> {
+pub fn c8_and_returns(rt: &HostRuntime, plan: &[u8]) {
     report_all(
         rt,
         &[
@@ -67,11 +66,11 @@ pub fn c8_and_returns(rt: &HostRuntime, plan: &[u8]) -> io::Result<()> {
                 plan,
             ),
         ],
-    )
+    );
 }
 
 // As the program sees files that are missing: both, the book, the plan.
-pub fn missing(rt: &HostRuntime, book: &[u8], plan: &[u8]) -> io::Result<()> {
+pub fn missing(rt: &HostRuntime, book: &[u8], plan: &[u8]) {
     report_all(
         rt,
         &[
@@ -79,5 +78,5 @@ pub fn missing(rt: &HostRuntime, book: &[u8], plan: &[u8]) -> io::Result<()> {
             ("C9, C2's plan", b"", plan),
             ("C1, no plan", book, b""),
         ],
-    )
+    );
 }

@@ -20,63 +20,48 @@ pub fn written(
     }
 }
 
-pub fn with_words(
-    rt: &HostRuntime,
-    name: &str,
-    book: &[u8],
-    plan: &[u8],
-    words: &mut [u32],
-) -> io::Result<()> {
+pub fn with_words(rt: &HostRuntime, name: &str, book: &[u8], plan: &[u8], words: &mut [u32]) {
     let mut text = [0u8; BUFFER];
-    println!(rt; "{name}")?;
-    written(rt, book, plan, words, &mut text)
+    let _ = println!(rt; "{name}");
+    let _ = written(rt, book, plan, words, &mut text);
 }
 
-pub fn with_text(
-    rt: &HostRuntime,
-    name: &str,
-    book: &[u8],
-    plan: &[u8],
-    text: &mut [u8],
-) -> io::Result<()> {
+pub fn with_text(rt: &HostRuntime, name: &str, book: &[u8], plan: &[u8], text: &mut [u8]) {
     let mut words = [0u32; WORDS];
-    println!(rt; "{name}")?;
-    written(rt, book, plan, &mut words, text)
+    let _ = println!(rt; "{name}");
+    let _ = written(rt, book, plan, &mut words, text);
 }
 
-pub fn reported(rt: &HostRuntime, name: &str, book: &[u8], plan: &[u8]) -> io::Result<()> {
+pub fn reported(rt: &HostRuntime, name: &str, book: &[u8], plan: &[u8]) {
     let mut words = [0u32; WORDS];
-    with_words(rt, name, book, plan, &mut words)
+    with_words(rt, name, book, plan, &mut words);
 }
 
-pub fn report_all(rt: &HostRuntime, cases: &[(&str, &[u8], &[u8])]) -> io::Result<()> {
+pub fn report_all(rt: &HostRuntime, cases: &[(&str, &[u8], &[u8])]) {
     for &(name, book, plan) in cases {
-        reported(rt, name, book, plan)?;
+        reported(rt, name, book, plan);
     }
-    Ok(())
 }
 
 // Books over one plan.
-pub fn report_books(rt: &HostRuntime, plan: &[u8], cases: &[(&str, &[u8])]) -> io::Result<()> {
+pub fn report_books(rt: &HostRuntime, plan: &[u8], cases: &[(&str, &[u8])]) {
     for &(name, book) in cases {
-        reported(rt, name, book, plan)?;
+        reported(rt, name, book, plan);
     }
-    Ok(())
 }
 
 // Plans over one book.
-pub fn report_plans(rt: &HostRuntime, book: &[u8], cases: &[(&str, &[u8])]) -> io::Result<()> {
+pub fn report_plans(rt: &HostRuntime, book: &[u8], cases: &[(&str, &[u8])]) {
     for &(name, plan) in cases {
-        reported(rt, name, book, plan)?;
+        reported(rt, name, book, plan);
     }
-    Ok(())
 }
 
 // All of the lent words, those behind the list too.
-pub fn show_words(rt: &HostRuntime, words: &[u32]) -> io::Result<()> {
-    print!(rt; "words")?;
+pub fn show_words(rt: &HostRuntime, words: &[u32]) {
+    let _ = print!(rt; "words");
     for word in words {
-        print!(rt; " {word}")?;
+        let _ = print!(rt; " {word}");
     }
-    println!(rt; "")
+    let _ = println!(rt; "");
 }

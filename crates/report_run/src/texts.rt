@@ -1,28 +1,26 @@
 // Lent text one byte too short and just long enough, and the text after the report: its bytes are dots before.
 use crate::show::{show_words, with_text, written};
-use std::io;
 use std::io::Write;
 
-fn lent(rt: &HostRuntime, name: &str, book: &[u8], plan: &[u8], text: &mut [u8]) -> io::Result<()> {
-    with_text(rt, name, book, plan, text)?;
-    print!(rt; "text ")?;
-    rt.stdout().write_all(text)?;
-    println!(rt; "")
+fn lent(rt: &HostRuntime, name: &str, book: &[u8], plan: &[u8], text: &mut [u8]) {
+    with_text(rt, name, book, plan, text);
+    let _ = print!(rt; "text ");
+    let _ = rt.stdout().write_all(text);
+    let _ = println!(rt; "");
 }
 
 // A book, a plan, and how many bytes are lent.
-fn lent_all(rt: &HostRuntime, cases: &[(&str, &[u8], &[u8], usize)]) -> io::Result<()> {
+fn lent_all(rt: &HostRuntime, cases: &[(&str, &[u8], &[u8], usize)]) {
     for &(name, book, plan, n) in cases {
         let mut text = [b'.'; 90];
         if let Some(text) = text.get_mut(..n) {
-            lent(rt, name, book, plan, text)?;
+            lent(rt, name, book, plan, text);
         }
     }
-    Ok(())
 }
 
 // C2's report has 84 bytes.
-pub fn fine(rt: &HostRuntime, book: &[u8], plan: &[u8]) -> io::Result<()> {
+pub fn fine(rt: &HostRuntime, book: &[u8], plan: &[u8]) {
     lent_all(
         rt,
         &[
@@ -31,25 +29,25 @@ pub fn fine(rt: &HostRuntime, book: &[u8], plan: &[u8]) -> io::Result<()> {
             ("text of 84 bytes", book, plan, 84),
             ("text of 90 bytes", book, plan, 90),
         ],
-    )
+    );
 }
 
 // The words hold the list all the same.
-pub fn words(rt: &HostRuntime, book: &[u8], plan: &[u8]) -> io::Result<()> {
+pub fn words(rt: &HostRuntime, book: &[u8], plan: &[u8]) {
     let mut words = [7u32; 12];
     let mut short = [b'.'; 83];
-    println!(rt; "text of 83 bytes, 12 words")?;
-    written(rt, book, plan, &mut words, &mut short)?;
-    show_words(rt, &words)
+    let _ = println!(rt; "text of 83 bytes, 12 words");
+    let _ = written(rt, book, plan, &mut words, &mut short);
+    show_words(rt, &words);
 }
 
 // A report on a refusal has 33 bytes.
-pub fn refused(rt: &HostRuntime) -> io::Result<()> {
+pub fn refused(rt: &HostRuntime) {
     lent_all(
         rt,
         &[
             ("C9, text of 32 bytes", b"", b"", 32),
             ("C9, text of 33 bytes", b"", b"", 33),
         ],
-    )
+    );
 }

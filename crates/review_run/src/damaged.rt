@@ -2,7 +2,6 @@
 use super::show::call;
 use book::RuleNumber;
 use review::{Phase, State};
-use std::io;
 use suspects::Suspects;
 
 const C1_LIST: [u32; 11] = [1, 0, 1, 10, 0, 1, 1, 44, 1, 2, 0];
@@ -28,40 +27,24 @@ pub fn running(place: usize, port: u32) -> State {
     }
 }
 
-pub fn called(
-    rt: &HostRuntime,
-    name: &str,
-    book: &[u8],
-    list: &[u32],
-    before: State,
-) -> io::Result<()> {
+pub fn called(rt: &HostRuntime, name: &str, book: &[u8], list: &[u32], before: State) {
     let mut state = before;
-    print!(rt; "{name}, ")?;
-    call(rt, book, list, &mut state)
+    let _ = print!(rt; "{name}, ");
+    call(rt, book, list, &mut state);
 }
 
-fn with(
-    rt: &HostRuntime,
-    name: &str,
-    book: &[u8],
-    place: usize,
-    suspects: Suspects,
-) -> io::Result<()> {
+fn with(rt: &HostRuntime, name: &str, book: &[u8], place: usize, suspects: Suspects) {
     let state = State {
         phase: Phase::Running,
         place,
         port: 0,
         suspects,
     };
-    called(rt, name, book, &C1_LIST, state)
+    called(rt, name, book, &C1_LIST, state);
 }
 
 // The place, the count of ranges, and the low and the high of two.
-fn with_two(
-    rt: &HostRuntime,
-    book: &[u8],
-    cases: &[(&str, usize, usize, u32, u32, u32, u32)],
-) -> io::Result<()> {
+fn with_two(rt: &HostRuntime, book: &[u8], cases: &[(&str, usize, usize, u32, u32, u32, u32)]) {
     for &(name, place, count, low_0, high_0, low_1, high_1) in cases {
         with(
             rt,
@@ -69,13 +52,12 @@ fn with_two(
             book,
             place,
             two(count, low_0, high_0, low_1, high_1),
-        )?;
+        );
     }
-    Ok(())
 }
 
-pub fn states(rt: &HostRuntime, book: &[u8]) -> io::Result<()> {
-    println!(rt; "states over C1's list")?;
+pub fn states(rt: &HostRuntime, book: &[u8]) {
+    let _ = println!(rt; "states over C1's list");
     with_two(
         rt,
         book,
@@ -100,13 +82,13 @@ pub fn states(rt: &HostRuntime, book: &[u8]) -> io::Result<()> {
             ("a low in an unused slot", 0, 1, 0, 9, 7, 0),
             ("a high in an unused slot", 0, 1, 0, 9, 0, 7),
         ],
-    )?;
+    );
     let mut last = two(0, 0, 0, 0, 0);
     last.low[639] = 7;
-    with(rt, "a low in the last slot", book, 0, last)
+    with(rt, "a low in the last slot", book, 0, last);
 }
 
-pub fn places(rt: &HostRuntime, book: &[u8]) -> io::Result<()> {
+pub fn places(rt: &HostRuntime, book: &[u8]) {
     for &place in &[
         0,
         1,
@@ -119,14 +101,13 @@ pub fn places(rt: &HostRuntime, book: &[u8]) -> io::Result<()> {
         18446744073709551613,
         18446744073709551615,
     ] {
-        print!(rt; "at {place}")?;
-        called(rt, "", book, &C1_LIST, running(place, 0))?;
+        let _ = print!(rt; "at {place}");
+        called(rt, "", book, &C1_LIST, running(place, 0));
     }
     for &port in &[1, 4000] {
-        print!(rt; "by port {port}")?;
-        called(rt, "", book, &C1_LIST, running(0, port))?;
+        let _ = print!(rt; "by port {port}");
+        called(rt, "", book, &C1_LIST, running(0, port));
     }
-    Ok(())
 }
 
 // A finished state with numbers in it that no running state may have.
@@ -140,27 +121,27 @@ fn finished(phase: Phase) -> State {
 }
 
 // With what the call could have tidied.
-fn finished_called(rt: &HostRuntime, name: &str, book: &[u8], phase: Phase) -> io::Result<()> {
+fn finished_called(rt: &HostRuntime, name: &str, book: &[u8], phase: Phase) {
     let mut state = finished(phase);
-    print!(rt; "{name}, ")?;
-    call(rt, book, &C1_LIST, &mut state)?;
+    let _ = print!(rt; "{name}, ");
+    call(rt, book, &C1_LIST, &mut state);
     let suspects = &state.suspects;
-    println!(rt;
+    let _ = println!(rt;
         "port {} slots {} {} {}",
         state.port, suspects.low[0], suspects.high[0], suspects.low[1]
-    )
+    );
 }
 
-pub fn finished_states(rt: &HostRuntime, book: &[u8]) -> io::Result<()> {
+pub fn finished_states(rt: &HostRuntime, book: &[u8]) {
     let refused = Phase::Refused(RuleNumber(77), 88);
-    finished_called(rt, "certified", book, Phase::Certified)?;
-    finished_called(rt, "refused", book, refused)?;
+    finished_called(rt, "certified", book, Phase::Certified);
+    finished_called(rt, "refused", book, refused);
     called(
         rt,
         "certified, no book",
         b"",
         &C1_LIST,
         finished(Phase::Certified),
-    )?;
-    called(rt, "refused, no book", b"", &C1_LIST, finished(refused))
+    );
+    called(rt, "refused, no book", b"", &C1_LIST, finished(refused));
 }

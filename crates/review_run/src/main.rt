@@ -38,45 +38,39 @@ fn whole(
 }
 
 // The start, and the calls over the words that it wrote and no others.
-fn sliced(
-    rt: &HostRuntime,
-    book: &[u8],
-    plan: &[u8],
-    port: u32,
-    words: &mut [u32],
-) -> io::Result<()> {
+fn sliced(rt: &HostRuntime, book: &[u8], plan: &[u8], port: u32, words: &mut [u32]) {
     match start(book, plan, port, words) {
         Ok(started) => {
             let counts = started.counts;
-            print!(rt; "start: words {} rules {}", counts.words, counts.rules)?;
-            show_state(rt, &started.state)?;
-            match words.get(..counts.words) {
-                Some(list) => slices(rt, book, list, started.state),
-                None => Ok(()),
+            let _ = print!(rt; "start: words {} rules {}", counts.words, counts.rules);
+            show_state(rt, &started.state);
+            if let Some(list) = words.get(..counts.words) {
+                slices(rt, book, list, started.state);
             }
         }
-        Err(refusal) => println!(rt;
-            "start: refusal {} place {}",
-            refusal.fault.number(),
-            refusal.place
-        ),
+        Err(refusal) => {
+            let _ = println!(rt;
+                "start: refusal {} place {}",
+                refusal.fault.number(),
+                refusal.place
+            );
+        }
     }
 }
 
 // A book, a plan and a port of it.
-fn reviewed(rt: &HostRuntime, cases: &[(&str, &[u8], &[u8], u32)]) -> io::Result<()> {
+fn reviewed(rt: &HostRuntime, cases: &[(&str, &[u8], &[u8], u32)]) {
     for &(name, book, plan, port) in cases {
-        println!(rt; "{name}")?;
+        let _ = println!(rt; "{name}");
         let mut words = [7u32; 16];
-        whole(rt, book, plan, port, &mut words)?;
+        let _ = whole(rt, book, plan, port, &mut words);
         let mut lent = [7u32; 16];
-        sliced(rt, book, plan, port, &mut lent)?;
+        sliced(rt, book, plan, port, &mut lent);
     }
-    Ok(())
 }
 
 // Document 01's cases C2 to C7 over C2's plan.
-fn c2_to_c7(rt: &HostRuntime, c1: &[u8], plan: &[u8]) -> io::Result<()> {
+fn c2_to_c7(rt: &HostRuntime, c1: &[u8], plan: &[u8]) {
     reviewed(
         rt,
         &[
@@ -113,11 +107,11 @@ fn c2_to_c7(rt: &HostRuntime, c1: &[u8], plan: &[u8]) -> io::Result<()> {
                 0,
             ),
         ],
-    )
+    );
 }
 
 // C8, and the books that tell a negation of an unread match, a return before a call, in a called chain and in the entry.
-fn c8_and_returns(rt: &HostRuntime, plan: &[u8]) -> io::Result<()> {
+fn c8_and_returns(rt: &HostRuntime, plan: &[u8]) {
     reviewed(
         rt,
         &[
@@ -152,11 +146,11 @@ fn c8_and_returns(rt: &HostRuntime, plan: &[u8]) -> io::Result<()> {
                 0,
             ),
         ],
-    )
+    );
 }
 
 // Refusals of the book, of the plan and of the port, in this order, and of words.
-fn refused(rt: &HostRuntime, book: &[u8], plan: &[u8]) -> io::Result<()> {
+fn refused(rt: &HostRuntime, book: &[u8], plan: &[u8]) {
     reviewed(
         rt,
         &[
@@ -164,29 +158,30 @@ fn refused(rt: &HostRuntime, book: &[u8], plan: &[u8]) -> io::Result<()> {
             ("no plan", book, b"", 32),
             ("a port that is not in the plan", book, plan, 2),
         ],
-    )?;
-    println!(rt; "ten words")?;
+    );
+    let _ = println!(rt; "ten words");
     let mut words = [7u32; 10];
-    whole(rt, book, plan, 0, &mut words)?;
-    sliced(rt, book, plan, 0, &mut words)
+    let _ = whole(rt, book, plan, 0, &mut words);
+    sliced(rt, book, plan, 0, &mut words);
 }
 
 // C1's book under states and lists that a caller damaged.
-fn damages(rt: &HostRuntime, book: &[u8]) -> io::Result<()> {
-    states(rt, book)?;
-    places(rt, book)?;
-    finished_states(rt, book)?;
-    damaged_lists(rt, book)?;
-    other_parts(rt, book)
+fn damages(rt: &HostRuntime, book: &[u8]) {
+    states(rt, book);
+    places(rt, book);
+    finished_states(rt, book);
+    damaged_lists(rt, book);
+    other_parts(rt, book);
 }
 
-fn main(rt: HostRuntime) -> io::Result<()> {
+// A print that fails is left off: each of the others is tried, and the status is 0.
+fn main(rt: HostRuntime) {
     let c1 =
         b"\x01\x01\x01\x02\x01\x02\x02\x04\x00\x01\x03\x80\x80\xA0\x85\x0C\xFF\x81\xA0\x85\x0C\x00\x00";
     let plan = b"\x01\x02\x00\x01\x80\x80\xA0\x85\x0C\xFF\x81\xA0\x85\x0C\x01\x00";
-    c2_to_c7(&rt, c1, plan)?;
-    c8_and_returns(&rt, b"\x01\x01\x00\x00")?;
-    refused(&rt, c1, plan)?;
-    damages(&rt, c1)?;
-    full_states(&rt)
+    c2_to_c7(&rt, c1, plan);
+    c8_and_returns(&rt, b"\x01\x01\x00\x00");
+    refused(&rt, c1, plan);
+    damages(&rt, c1);
+    full_states(&rt);
 }

@@ -12,10 +12,10 @@ fn show_phase(rt: &HostRuntime, phase: Phase) -> io::Result<()> {
     }
 }
 
-pub fn show_state(rt: &HostRuntime, state: &State) -> io::Result<()> {
-    print!(rt; " place {}", state.place)?;
-    show_phase(rt, state.phase)?;
-    println!(rt; " ranges {}", state.suspects.count)
+pub fn show_state(rt: &HostRuntime, state: &State) {
+    let _ = print!(rt; " place {}", state.place);
+    let _ = show_phase(rt, state.phase);
+    let _ = println!(rt; " ranges {}", state.suspects.count);
 }
 
 fn show_answer(rt: &HostRuntime, answer: Result<(), Refusal>) -> io::Result<()> {
@@ -29,19 +29,18 @@ fn show_answer(rt: &HostRuntime, answer: Result<(), Refusal>) -> io::Result<()> 
     }
 }
 
-pub fn call(rt: &HostRuntime, book: &[u8], list: &[u32], state: &mut State) -> io::Result<()> {
-    show_answer(rt, step(book, list, state))?;
-    show_state(rt, state)
+pub fn call(rt: &HostRuntime, book: &[u8], list: &[u32], state: &mut State) {
+    let _ = show_answer(rt, step(book, list, state));
+    show_state(rt, state);
 }
 
 // Calls until the state is finished; no case's list has more than eight rules.
-pub fn slices(rt: &HostRuntime, book: &[u8], list: &[u32], first: State) -> io::Result<()> {
+pub fn slices(rt: &HostRuntime, book: &[u8], list: &[u32], first: State) {
     let mut state = first;
     for _ in 0..8 {
-        call(rt, book, list, &mut state)?;
+        call(rt, book, list, &mut state);
         if !matches!(state.phase, Phase::Running) {
             break;
         }
     }
-    Ok(())
 }

@@ -1,2 +1,3 @@
 pub mod Appends
+pub mod Pushes
 pub mod Unique

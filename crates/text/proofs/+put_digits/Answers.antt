@@ -1,18 +1,28 @@
 -- The digits before the last are fewer, and the last goes behind them.
-use Rattle.std.proofs.Common.{◌-◌, ◌/◌, sym, append-nil, append_assoc, refl, arith}
+use Prim.Native.Nat.{ℕ, ◌+◌, ◌-◌, ◌≤◌, ◌<◌, ◌/◌}
+use native.Mathlib.Omega.{arith}
+use mathlib.Core.List.{List}
+use lib.ListN.{length}
 use Rattle.model.specs.Report.{digits}
-use Rattle.text.proofs.Appends.{no_digits, one_digit, last_digit}
+use Rattle.text.specs.Puts.{Puts}
+use Rattle.text.proofs.Appends.{no_digits, one_digit, last_digit, digits_short, puts_length}
 use Rattle.text.proofs.+put_digits.Goals as goal
-use Rattle.text.proofs.+put_digits.Goals.{then-x-ge10, else-x-ge10}
+
+-- room for the last digit is left behind those before it
+room : (w : List ℕ) (at n x m : ℕ) (w' : List ℕ) → 0 < n → at + n ≤ length w → Puts w at (digits (n - 1) (x / 10)) m w' → m < length w'
+room w at n x m w' some h p = omega (arith, p.next, puts_length p, digits_short (n - 1) (x / 10))
 
 pub returns-then-n-eq0 : goal.returns-then-n-eq0
-returns-then-n-eq0 g t c = rw (c.if-n-eq0.true, no_digits c.args.x) (sym (append-nil c.args.text.now.items))
+returns-then-n-eq0 t c = let a = c.args in no_digits a.buf.now a.at a.n a.x c.if-n-eq0.true (omega (arith, c.requires))
+
+pub returns-then-x-lt10 : goal.returns-then-x-lt10
+returns-then-x-lt10 t c = let a = c.args in one_digit a.buf.now a.at a.n a.x (omega arith) c.if-x-lt10.true (omega (arith, c.requires))
+
+pub bounds-buf-next : goal.bounds-buf-next
+bounds-buf-next t c = let a = c.args in room a.buf.now a.at a.n a.x _ _ (omega arith) c.requires c.put_digits-next.ensures
 
 pub returns : goal.returns
-returns g t c =
+returns t c =
     let a = c.args in
-    elim c.if-x-ge10.branch [
-      | then-x-ge10 w ↦ rw (c.push.ensures.items, w.text-is, w.put_digits.ensures, last_digit a.n a.x (omega (arith, c.if-n-eq0.false)) w.if-x-ge10.true)
-          (append_assoc a.text.now.items (digits (a.n - 1) (a.x / 10)) _)
-      | else-x-ge10 w ↦ rw (c.push.ensures.items, w.text-is, one_digit a.n a.x (omega (arith, c.if-n-eq0.false)) w.if-x-ge10.false) refl
-    ]
+    last_digit a.buf.now a.at a.n a.x _ _ (omega arith) c.if-x-lt10.false c.put_digits-next.ensures
+    (room a.buf.now a.at a.n a.x _ _ (omega arith) c.requires c.put_digits-next.ensures)
