@@ -86,7 +86,8 @@ fn read_one(s: &[u8], at: usize, high: u64, sources: u32) -> Result<ExpressionRe
     })
 }
 
-// An expression's low and high.
+// An expression's low and high. Inlined, and what reads by kind returns in each arm: else the answer is copied byte by byte.
+#[inline(always)]
 fn read_two(s: &[u8], at: usize, high: u64, sources: u32) -> Result<ExpressionRead, Refusal>
     ensures { (rules : ℕ) → told result ≡ noted (twice high s.now (stand at rules sources)) }
 {
@@ -106,14 +107,14 @@ fn read_plain(
     ensures { (levels rules : ℕ) → told result ≡ noted (expression (suc levels) s.now (stand place rules sources)) }
 {
     match kind {
-        Kind::Source if SOURCES <= sources => Err(Fault::TooManySources.at(place)),
-        Kind::Source => read_two(s, at, ADDRESS, sources + 1),
-        Kind::Port => read_one(s, at, PORT, sources),
-        Kind::Destination => read_two(s, at, ADDRESS, sources),
-        Kind::Protocol => read_one(s, at, PROTOCOL, sources),
-        Kind::Service => read_two(s, at, SERVICE, sources),
-        Kind::Unread => read_one(s, at, UNREAD, sources),
-        _ => Ok(ExpressionRead { next: at, sources }),
+        Kind::Source if SOURCES <= sources => return Err(Fault::TooManySources.at(place)),
+        Kind::Source => return read_two(s, at, ADDRESS, sources + 1),
+        Kind::Port => return read_one(s, at, PORT, sources),
+        Kind::Destination => return read_two(s, at, ADDRESS, sources),
+        Kind::Protocol => return read_one(s, at, PROTOCOL, sources),
+        Kind::Service => return read_two(s, at, SERVICE, sources),
+        Kind::Unread => return read_one(s, at, UNREAD, sources),
+        _ => return Ok(ExpressionRead { next: at, sources }),
     }
 }
 
@@ -135,12 +136,12 @@ pub fn read_expression(
         return Err(Fault::OutOfRange.at(at));
     };
     match kind {
-        Kind::Not => read_expression(s, number.next, levels - 1, sources),
+        Kind::Not => return read_expression(s, number.next, levels - 1, sources),
         Kind::All => {
             let count = read_field(s, number.next, 2, OPERANDS)?;
             read_operands(s, count.next, levels - 1, sources, count.value)
         }
-        _ => read_plain(s, at, kind, number.next, sources),
+        _ => return read_plain(s, at, kind, number.next, sources),
     }
 }
 

@@ -46,8 +46,8 @@ read_expression-read_operands-requires t c =
     let count = field_number _ _ _ _ _ _ (numeral_of _ _ _ c.in_ok-count-in-All.ensures) in
     omega (arith, number_past _ _ _ _ (numeral_of _ _ _ c.in_ok-number.ensures), number_past _ _ _ _ count, c.decreases)
 
-pub read_expression-returns-in_ok-count-in-All : goal.read_expression-returns-in_ok-count-in-All
-read_expression-returns-in_ok-count-in-All t c = λ rules.
+pub read_expression-returns : goal.read_expression-returns
+read_expression-returns t c = λ rules.
     entered _ c.if-levels-eq0.false _ _ _
     (is_conjunction _ _ _ _ _ (numeral_of _ _ _ c.in_ok-number.ensures) _ (sym c.in-Ok.ensures ∙ ap kind_number c.in-All.is) _ c.in_ok-count-in-All.ensures _
     c.read_operands.ensures rules)
