@@ -26,7 +26,7 @@ const HEAVY: u32 = WEIGHT + 1;
 
 // The set x with d.
 fn with(x: u64, d: usize) -> u64
-    requires { d < chains_most }
+    requires { (d < chains_most) × (x < 2 ^ chains_most) }
     ensures { (result < 2 ^ chains_most) × ((e : ℕ) → has result e ≡ has x e || eqb e d) }
 {
     x | (1u64 << d)
@@ -48,7 +48,7 @@ fn holds(sets: &[u64; CHAINS], c: usize, d: usize) -> bool
 }
 
 fn add(sets: &mut [u64; CHAINS], c: usize, d: usize)
-    requires { (c < chains_most) × (d < chains_most) }
+    requires { Fit sets.old × (c < chains_most) × (d < chains_most) }
     ensures { Added c d sets.old sets.new }
 {
     sets[c] = with(sets[c], d);
@@ -56,7 +56,7 @@ fn add(sets: &mut [u64; CHAINS], c: usize, d: usize)
 
 // Whatever has k in its set takes k's set.
 fn pass(sets: &mut [u64; CHAINS], k: usize)
-    requires { k < chains_most }
+    requires { Fit sets.old × (k < chains_most) }
     ensures { Passed k sets.old sets.new }
 {
     for a in 0..CHAINS {
@@ -68,7 +68,7 @@ fn pass(sets: &mut [u64; CHAINS], k: usize)
 
 // Warshall's closure of the first sets.
 fn close(sets: &mut [u64; CHAINS], chains: usize)
-    requires { chains ≤ chains_most }
+    requires { Fit sets.old × (chains ≤ chains_most) }
     ensures { Holds sets.new (reach (in_row sets.old) chains) }
 {
     for k in 0..chains {
@@ -78,7 +78,7 @@ fn close(sets: &mut [u64; CHAINS], chains: usize)
 
 // The chains that chain c calls.
 fn add_calls(contents: &Contents, c: usize, sets: &mut [u64; CHAINS])
-    requires { Shape contents.now × (c < contents.now.chains) }
+    requires { Shape contents.now × (c < contents.now.chains) × Fit sets.old }
     ensures { Holds sets.new (λ x e. in_row sets.old x e || (eqb x c && calls_in contents.now c e)) }
 {
     for rule in contents.rules_of(c) {

@@ -1,5 +1,5 @@
 -- What is gathered, with the calls of the rules from i on, is what chain c calls.
-use Rattle.std.proofs.Common.{◌≤◌, ◌+◌, ◌<◌, ◌&&◌, ◌||◌, eqb, sym, ap, ◌∙◌, arith}
+use Rattle.std.proofs.Common.{◌≤◌, ◌+◌, ◌<◌, ◌&&◌, ◌||◌, eqb, refl, sym, ap, add-zero, ◌∙◌, arith}
 use Rattle.book.specs.Contents.{said, first_of, rules_in}
 use Rattle.model.specs.Calls.{called}
 use Rattle.calls.specs.Sets.{Relation, in_row}
@@ -8,11 +8,14 @@ use Rattle.calls.proofs.Rules.{part_action, part_calls, silent, a_call, no_call,
 use Rattle.calls.proofs.add_calls.Goals as goal
 use Rattle.calls.proofs.add_calls.Goals.{in-Call, in_default}
 
+pub loop-rule-init : goal.loop-rule-init
+loop-rule-init c = rw add-zero (c.requires.2, λ x e lx le. refl)
+
 pub add-requires : goal.add-requires
 add-requires c =
     let part = c.rules_of-rule-items.ensures in
     let known = part_calls _ c.requires.0 _ _ c.requires.1 _ part.part (omega (arith, part.count)) _ c.in-Call.is in
-    (omega (arith, c.requires.1, c.requires.0.few), omega (arith, known, c.requires.0.few))
+    (c.loop-rule.invariant.0, omega (arith, c.requires.1, c.requires.0.few), omega (arith, known, c.requires.0.few))
 
 pub loop-rule-preserved : goal.loop-rule-preserved
 loop-rule-preserved c =

@@ -10,7 +10,7 @@ pub loop-c-init : goal.loop-c-init
 loop-c-init c = (empty, below_none c.args.contents.now)
 
 pub add_calls-requires : goal.add_calls-requires
-add_calls-requires c = (c.requires, omega arith)
+add_calls-requires c = (c.requires, omega arith, c.loop-c.invariant.0)
 
 pub loop-c-preserved : goal.loop-c-preserved
 loop-c-preserved c =

@@ -10,7 +10,7 @@ pub loop-c-init : goal.loop-c-init
 loop-c-init c = (omega arith, own_none c.args.sets.now)
 
 pub with-loops-requires : goal.with-loops-requires
-with-loops-requires c = omega arith
+with-loops-requires c = (omega arith, c.loop-c.invariant.0)
 
 pub loop-c-preserved : goal.loop-c-preserved
 unfolding in_row

@@ -1,5 +1,5 @@
 -- The rows below a have taken k's set; k's own row does not change.
-use Rattle.std.proofs.Common.{rules, ◌<◌, sym, ◌∙◌, arith}
+use Rattle.std.proofs.Common.{◌<◌, sym, ◌∙◌, arith}
 use Rattle.calls.specs.Sets.{in_row}
 use Rattle.calls.proofs.Tables.{joined, part_none, part_all, took, passed_by}
 use Rattle.model.specs.Limits.{chains_most}
@@ -7,7 +7,7 @@ use Rattle.calls.proofs.pass.Goals as goal
 use Rattle.calls.proofs.pass.Goals.{then-holds, else-holds}
 
 pub loop-a-init : goal.loop-a-init
-loop-a-init c = record { fit = search rules; bits = λ x e lx le. sym (part_none (in_row c.args.sets.now) c.args.k x e) }
+loop-a-init c = record { fit = c.requires.0; bits = λ x e lx le. sym (part_none (in_row c.args.sets.now) c.args.k x e) }
 
 pub loop-a-preserved : goal.loop-a-preserved
 loop-a-preserved c =
@@ -17,8 +17,8 @@ loop-a-preserved c =
     let q = c.holds.ensures in
     let la : l.a < chains_most = omega arith in
     elim c.if-holds.branch [
-      | then-holds w ↦ rw w.sets-is (took o s.k l.sets l.a la c.requires l.invariant (sym q ∙ w.if-holds.true) _ (joined l.sets l.invariant.fit l.a s.k la))
-      | else-holds w ↦ rw w.sets-is (passed_by o s.k l.sets l.a la c.requires l.invariant (sym q ∙ w.if-holds.false))
+      | then-holds w ↦ rw w.sets-is (took o s.k l.sets l.a la c.requires.1 l.invariant (sym q ∙ w.if-holds.true) _ (joined l.sets l.invariant.fit l.a s.k la))
+      | else-holds w ↦ rw w.sets-is (passed_by o s.k l.sets l.a la c.requires.1 l.invariant (sym q ∙ w.if-holds.false))
     ]
 
 pub returns : goal.returns
