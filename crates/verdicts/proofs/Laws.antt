@@ -11,7 +11,7 @@ use Rattle.model.specs.Matching.{value, matches}
 use Rattle.model.specs.Chains.{chain_verdict}
 use Rattle.model.specs.Unfolding.{list_of, words_of}
 use Rattle.model.specs.Verdict.{list_verdict}
-use Rattle.model.proofs.VerdictSmall.{chain_small, list_small}
+use Rattle.model.proofs.VerdictSmall.{list_small}
 use Rattle.refusals.specs.declared.Refusal.{Refusal}
 use Rattle.refusals.specs.Refusals.{number_of}
 use Rattle.book.specs.declared.Verdict.{Verdict}
@@ -25,6 +25,7 @@ use Rattle.walks.specs.declared.Tactic.{Tactic}
 use Rattle.walks.specs.Packets.{packet_of, tactic_of, leaves_of}
 use Rattle.walks.specs.Walks.{Keeping, HasChains, ChainsSay}
 use Rattle.walks.specs.Lists.{Listing, ListSays}
+use Rattle.walks.proofs.Walks.{say_verdict}
 use Rattle.walks.proofs.Books.{read_stands, kept_of, keeping_of, lists_of, listing_of}
 use Rattle.verdicts.specs.Verdicts.{Decides}
 
@@ -41,18 +42,12 @@ module _ {s : List ℕ} {k : Checked} (h : CheckedFrom s k) where
   pub can_walk : Keeping s k.contents (HasChains k.contents.chains)
   can_walk = keeping_of s h.book k.contents (read_stands s h.book h.read) (charted_as h.book h.read)
 
-  -- what the chains come to under the policy of the contents is 0 or 1, and names the verdict
+  -- what the chains come to under the policy of the contents names the verdict
   module _ (answers : List ℕ) (p : Packet) (policy r : ℕ) (is : policy ≡ verdict_number k.contents.policy) (say : ChainsSay s answers p k.contents policy r) where
-    settles : (b : Book) → readable s ≡ fine b → r ≡ chain_verdict b (matches answers (packet_of p))
-    settles b e =
-        say b (kept_of s b k.contents (read_stands s b e) (charted_as b e))
-        (readable_policy s b e ∙ ap (λ c. verdict_number c.policy) (sym (same_book s k h b e)) ∙ sym is)
-
-    settles_small : r ≤ 1
-    settles_small = subst (λ r. r ≤ 1) (sym (settles h.book h.read)) (chain_small s h.book h.read (matches answers (packet_of p)))
-
     pub walked : (v : Verdict) → v ≡ verdict_of r → (b : Book) → readable s ≡ fine b → verdict_number v ≡ chain_verdict b (matches answers (packet_of p))
-    walked v q b e = ap verdict_number q ∙ number_back r settles_small ∙ settles b e
+    walked v q b e =
+        say_verdict s answers p k.contents policy r is say v q b (kept_of s b k.contents (read_stands s b e) (charted_as b e))
+        (readable_policy s b e ∙ ap (λ c. verdict_number c.policy) (sym (same_book s k h b e)))
 
   pub can_list : Ready k
   can_list = record { bytes = s; from = h }

@@ -17,7 +17,7 @@ use Rattle.book.specs.declared.ChainNumber.{ChainNumber}
 use Rattle.book.specs.declared.Contents.{Contents}
 use Rattle.book.specs.declared.Verdict.{Verdict}
 use Rattle.book.specs.declared.Verdict.TheVariants.{Accept, Drop}
-use Rattle.book.specs.Contents.{said, note_at, expression_at, first_of, verdict_number, Noted, NotedAll}
+use Rattle.book.specs.Contents.{said, note_at, expression_at, first_of, verdict_number, verdict_of, Noted, NotedAll}
 use Rattle.matching.specs.declared.Asking.{Asking}
 use Rattle.matching.specs.declared.Seen.{Seen}
 use Rattle.matching.specs.declared.Truth.{Truth}
@@ -172,3 +172,17 @@ module _ (s answers : List ℕ) (p : Packet) (k : Contents) (policy : ℕ) (o : 
       let e : outcome_of o ≡ walk k.chains b (matches answers (packet_of p)) 0 = w b h (omega (arith, h.charted.count, h.charted.shape.some)) in
       let n : length b.chains ≡ k.chains = h.charted.count in
       is ∙ rw (n, ← e, q)
+
+-- under the policy of the contents that is 0 or 1, and names the verdict
+settled_named : (v : Verdict) (policy : ℕ) → policy ≡ verdict_number v → (o : model.Outcome) → verdict_number (verdict_of (settle policy o)) ≡ settle policy o
+settled_named v policy q model.accepted = refl
+settled_named v policy q model.denied = refl
+settled_named Accept policy q model.undecided = rw q refl
+settled_named Drop policy q model.undecided = rw q refl
+
+module _ (s answers : List ℕ) (p : Packet) (k : Contents) (policy r : ℕ) (is : policy ≡ verdict_number k.policy) (say : ChainsSay s answers p k policy r) where
+  pub say_verdict : (v : Verdict) → v ≡ verdict_of r → (b : Book) → Kept s k b → b.policy ≡ verdict_number k.policy
+      → verdict_number v ≡ chain_verdict b (matches answers (packet_of p))
+  unfolding chain_verdict
+  say_verdict v q b h e =
+      ap verdict_number (q ∙ ap verdict_of (say b h (e ∙ sym is))) ∙ settled_named k.policy b.policy e (walk (length b.chains) b (matches answers (packet_of p)) 0)
