@@ -173,13 +173,14 @@ module _ (s answers : List ℕ) (p : Packet) (k : Contents) (policy : ℕ) (o : 
       let n : length b.chains ≡ k.chains = h.charted.count in
       is ∙ rw (n, ← e, q)
 
--- under the policy of the contents that is 0 or 1, and names the verdict
+-- an outcome under the number of a verdict is the number of a verdict
 settled_named : (v : Verdict) (policy : ℕ) → policy ≡ verdict_number v → (o : model.Outcome) → verdict_number (verdict_of (settle policy o)) ≡ settle policy o
 settled_named v policy q model.accepted = refl
 settled_named v policy q model.denied = refl
 settled_named Accept policy q model.undecided = rw q refl
 settled_named Drop policy q model.undecided = rw q refl
 
+-- so under the policy of the contents what the chains come to names the verdict
 module _ (s answers : List ℕ) (p : Packet) (k : Contents) (policy r : ℕ) (is : policy ≡ verdict_number k.policy) (say : ChainsSay s answers p k policy r) where
   pub say_verdict : (v : Verdict) → v ≡ verdict_of r → (b : Book) → Kept s k b → b.policy ≡ verdict_number k.policy
       → verdict_number v ≡ chain_verdict b (matches answers (packet_of p))
