@@ -10,6 +10,7 @@ use Rattle.model.specs.Matching.{matches}
 use Rattle.model.specs.Chains as model
 use Rattle.model.specs.Chains.{act, or_else, walk_rules, walk, chain_verdict, settle}
 use Rattle.model.proofs.EveryRule.{every_at}
+use Rattle.model.proofs.ClosuresEnclose.{not_accepted}
 use Rattle.book.specs.declared.Action.{Action}
 use Rattle.book.specs.declared.Action.TheVariants.{Call}
 use Rattle.book.specs.declared.Action.TheVariants as action
@@ -173,17 +174,17 @@ module _ (s answers : List ℕ) (p : Packet) (k : Contents) (policy : ℕ) (o : 
       let n : length b.chains ≡ k.chains = h.charted.count in
       is ∙ rw (n, ← e, q)
 
--- an outcome under the number of a verdict is the number of a verdict
-settled_named : (v : Verdict) (policy : ℕ) → policy ≡ verdict_number v → (o : model.Outcome) → verdict_number (verdict_of (settle policy o)) ≡ settle policy o
-settled_named v policy q model.accepted = refl
-settled_named v policy q model.denied = refl
-settled_named Accept policy q model.undecided = rw q refl
-settled_named Drop policy q model.undecided = rw q refl
+-- a policy that is a verdict is 0 or 1
+verdict_small : (v : Verdict) → verdict_number v ≤ 1
+verdict_small Accept = omega arith
+verdict_small Drop = omega arith
 
 -- so under the policy of the contents what the chains come to names the verdict
 module _ (s answers : List ℕ) (p : Packet) (k : Contents) (policy r : ℕ) (is : policy ≡ verdict_number k.policy) (say : ChainsSay s answers p k policy r) where
   pub say_verdict : (v : Verdict) → v ≡ verdict_of r → (b : Book) → Kept s k b → b.policy ≡ verdict_number k.policy
       → verdict_number v ≡ chain_verdict b (matches answers (packet_of p))
-  unfolding chain_verdict
-  say_verdict v q b h e =
-      ap verdict_number (q ∙ ap verdict_of (say b h (e ∙ sym is))) ∙ settled_named k.policy b.policy e (walk (length b.chains) b (matches answers (packet_of p)) 0)
+  say_verdict v q b h e = ap verdict_number q ∙ by r (say b h (e ∙ sym is))
+    where
+      by : (n : ℕ) → n ≡ chain_verdict b (matches answers (packet_of p)) → verdict_number (verdict_of n) ≡ chain_verdict b (matches answers (packet_of p))
+      by zero t = t
+      by (suc n) t = sym (not_accepted b (matches answers (packet_of p)) (omega (arith, e, verdict_small k.policy)) (λ z. absurd (omega (arith, z, t))))
